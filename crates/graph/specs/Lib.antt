@@ -1,0 +1,9 @@
+pub mod Links
+pub mod EdgeLists
+pub mod Tallies
+pub mod Order
+pub mod Reach
+pub mod Model
+pub mod Adding
+pub mod Hiding
+pub mod Cursors

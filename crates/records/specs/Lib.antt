@@ -1,0 +1,5 @@
+pub mod Nodes
+pub mod Edges
+pub mod Refusals
+pub mod SheetRefusals
+pub mod Stages
