@@ -6,3 +6,5 @@ pub mod Disabled
 pub mod Added
 pub mod Turns
 pub mod Following
+pub mod Turning
+pub mod Keeping

@@ -48,3 +48,7 @@ module _ (k : ℕ) (ns : List ℕ) (i : ℕ) (b : Bool) (m : Model) where
       go zero q s e = absurd (omega arith)
       go (suc j) q true e = rw (sub-one (suc j), e)
       go (suc j) q false e = rw (sub-one (suc j), e)
+
+-- what holds of a change holds of the answer and the graph that it came to
+pub as-left : (P : Bool → Model → Type 0) (c : Change) (b : Bool) (m : Model) → b ≡ c .changed → m ≡ c .after → P (c .changed) (c .after) → P b m
+as-left P c b m e f h = subst (λ x. P x m) (sym e) (subst (P (c .changed)) (sym f) h)

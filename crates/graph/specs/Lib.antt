@@ -7,3 +7,4 @@ pub mod Model
 pub mod Adding
 pub mod Hiding
 pub mod Cursors
+pub mod HidingLaws

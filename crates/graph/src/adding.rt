@@ -100,6 +100,21 @@ impl RawInstGraph {
         Ok(self.nodes[number])
     }
 
+    // The nodes by their numbers.
+    pub fn nodes(&self) -> &[Node]
+        ensures { λ r. ⌜ now r ≡ model (now (self .entry)) .nodes ⌝ }
+    {
+        &self.nodes[0..self.node_count]
+    }
+
+    // The edges by their numbers.
+    pub fn edges(&self) -> &[Edge]
+        ensures { λ r. ⌜ now r ≡ model (now (self .entry)) .edges ⌝ }
+    {
+        &self.edges.rows[0..self.edges.count]
+    }
+
+    // How many nodes are hidden and disabled, and the generation.
     pub fn stats(&self) -> GraphStats
         ensures { λ r. ⌜ r ≡ statsOf (model (now (self .entry))) ⌝ }
     {

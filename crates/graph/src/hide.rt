@@ -1,11 +1,14 @@
 // Disabling, showing and hiding nodes.
 ghost use mathlib.Core.Path.{_≡_};
+ghost use mathlib.Core.Bool.{true};
 ghost use Prim.Native.Nat.{ℕ, _<_};
+ghost use lib.Dec.{eqb};
 ghost use lib.ListN.{length, getD};
 ghost use Rattle.std.specs.Vec.{made};
 ghost use Rattle.records.specs.Nodes.{isShown};
 ghost use Rattle.graph.specs.Model.{model, outcome};
 ghost use Rattle.graph.specs.Adding.{nodeAt};
+ghost use Rattle.graph.specs.HidingLaws.{named, Turned, KeptFirst};
 ghost use Rattle.graph.specs.Hiding.{put, Keeps, show, addNodeIn, disable, allKnown, showInTurn, keepFirst, setVisibility, setVisibilityMany, resetVisibilityTo, keepFirstN};
 use crate::raw::RawInstGraph;
 use records::node::NodeKind;
@@ -65,7 +68,8 @@ impl RawInstGraph {
     }
 
     pub fn set_visibility(&mut self, number: usize, to: Visibility) -> Result<bool, Refusal>
-        ensures { λ r. ⌜ outcome r (model (now (self .exit))) ≡ setVisibility number to (model (now (self .entry))) ⌝ }
+        ensures whole { λ r. ⌜ outcome r (model (now (self .exit))) ≡ setVisibility number to (model (now (self .entry))) ⌝ }
+        ensures law { λ r. ⌜ made r (λ changed. Turned to (eqb number) changed (model (now (self .entry))) (model (now (self .exit)))) ⌝ }
     {
         admit(self.stage, Call::SetVisibility)?;
         self.known(number)?;
@@ -91,7 +95,8 @@ impl RawInstGraph {
         to: Visibility,
         numbers: &[usize],
     ) -> Result<bool, Refusal>
-        ensures { λ r. ⌜ outcome r (model (now (self .exit))) ≡ setVisibilityMany to (now (numbers .entry)) (model (now (self .entry))) ⌝ }
+        ensures whole { λ r. ⌜ outcome r (model (now (self .exit))) ≡ setVisibilityMany to (now (numbers .entry)) (model (now (self .entry))) ⌝ }
+        ensures law { λ r. ⌜ made r (λ changed. Turned to (named (now (numbers .entry))) changed (model (now (self .entry))) (model (now (self .exit)))) ⌝ }
     {
         admit(self.stage, Call::SetVisibility)?;
         self.all_known(numbers)?;
@@ -112,7 +117,8 @@ impl RawInstGraph {
 
     // Shows or hides every node that is not disabled.
     pub fn reset_visibility_to(&mut self, to: Visibility) -> Result<bool, Refusal>
-        ensures { λ r. ⌜ outcome r (model (now (self .exit))) ≡ resetVisibilityTo to (model (now (self .entry))) ⌝ }
+        ensures whole { λ r. ⌜ outcome r (model (now (self .exit))) ≡ resetVisibilityTo to (model (now (self .entry))) ⌝ }
+        ensures law { λ r. ⌜ made r (λ changed. Turned to (λ _. true) changed (model (now (self .entry))) (model (now (self .exit)))) ⌝ }
     {
         admit(self.stage, Call::SetVisibility)?;
         let mut changed = false;
@@ -124,7 +130,8 @@ impl RawInstGraph {
 
     // Passes the first n entries of the list that are shown, and hides the rest of it.
     pub fn keep_first_n(&mut self, numbers: &[usize], n: usize) -> Result<bool, Refusal>
-        ensures { λ r. ⌜ outcome r (model (now (self .exit))) ≡ keepFirstN (now (numbers .entry)) n (model (now (self .entry))) ⌝ }
+        ensures whole { λ r. ⌜ outcome r (model (now (self .exit))) ≡ keepFirstN (now (numbers .entry)) n (model (now (self .entry))) ⌝ }
+        ensures law { λ r. ⌜ made r (λ changed. KeptFirst n (now (numbers .entry)) changed (model (now (self .entry))) (model (now (self .exit)))) ⌝ }
     {
         admit(self.stage, Call::SetVisibility)?;
         self.all_known(numbers)?;

@@ -4,11 +4,19 @@ use mathlib.Core.Bool.{Bool, true, false}
 use Rattle.std.specs.declared.option.Option.the-variants.{None}
 use Rattle.records.specs.declared.node.Node.{Node}
 use Rattle.records.specs.declared.node.NodeKind.{NodeKind}
-use Rattle.records.specs.declared.node.NodeKind.the-variants.{Instantiation}
+use Rattle.records.specs.declared.node.NodeKind.the-variants.{Instantiation, ENode, GivenEquality, TransEquality, Proof, Cdcl}
 use Rattle.records.specs.declared.node.NodeState.{NodeState}
 use Rattle.records.specs.declared.node.NodeState.the-variants.{Disabled, Hidden, Visible}
 use Rattle.records.specs.declared.node.Visibility.{Visibility}
 use Rattle.records.specs.declared.node.Visibility.the-variants as visibility
+
+abbrev pub kindNumber : NodeKind → ℕ
+kindNumber Instantiation = 0
+kindNumber ENode = 1
+kindNumber GivenEquality = 2
+kindNumber TransEquality = 3
+kindNumber Proof = 4
+kindNumber Cdcl = 5
 
 abbrev pub sameState : NodeState → NodeState → Bool
 sameState Disabled Disabled = true

@@ -1,6 +1,6 @@
 // What a node is.
 ghost use mathlib.Core.Path.{_≡_};
-ghost use Rattle.records.specs.Nodes.{asked, isDisabled, isHidden, isShown};
+ghost use Rattle.records.specs.Nodes.{asked, isDisabled, isHidden, isShown, kindNumber};
 
 #[derive(Clone, Copy, PartialEq, Eq, Debug)]
 pub enum NodeState {
@@ -17,6 +17,22 @@ pub enum NodeKind {
     TransEquality,
     Proof,
     Cdcl,
+}
+
+impl NodeKind {
+    // The kinds are numbered from 0.
+    pub fn number(self) -> u8
+        ensures { λ r. ⌜ r ≡ kindNumber self ⌝ }
+    {
+        match self {
+            NodeKind::Instantiation => 0,
+            NodeKind::ENode => 1,
+            NodeKind::GivenEquality => 2,
+            NodeKind::TransEquality => 3,
+            NodeKind::Proof => 4,
+            NodeKind::Cdcl => 5,
+        }
+    }
 }
 
 // The number of a node's subgraph, and where the node stands in that subgraph's order.
