@@ -5,9 +5,11 @@ use mathlib.Core.List.{List, [], _∷_, _++_}
 use lib.ListN.{length, getD, set, take}
 use lib.Seq.{take-set-lt}
 use Rattle.std.proofs.shelf.Lists.{getD-take, length-set}
-use Rattle.std.proofs.shelf.Sums.{sumBy-push, sumBy-set, getD-le-sumBy, countBy-le-length}
+use Rattle.std.proofs.shelf.Sums.{sumBy-cons, sumBy-push, sumBy-set, getD-le-sumBy, countBy-le-length}
 use Rattle.records.specs.declared.node.Node.{Node}
 use Rattle.records.specs.declared.node.NodeState.{NodeState}
+use Rattle.records.specs.declared.node.NodeState.the-variants.{Disabled, Hidden, Visible}
+use mathlib.Core.Bool.{cond}
 use native.Mathlib.Omega.{arith}
 use Rattle.records.specs.Nodes.{sameState}
 use Rattle.graph.specs.Tallies.{tally, one}
@@ -40,3 +42,20 @@ tally-put s n ns i x d was next h l e f =
 
 pub counted-put : (n : ℕ) (ns : List Node) (i : ℕ) (x : Node) → i < n → length (take n ns) ≡ n → length (take n (set ns i x)) ≡ n
 counted-put n ns i x h e = rw (take-set-lt n ns i x h, length-set (take n ns) i x) e
+
+-- each node is in one of the three states
+pub tally-all : (ns : List Node) → tally Visible ns + tally Hidden ns + tally Disabled ns ≡ length ns
+unfolding tally
+tally-all [] = refl
+tally-all (n ∷ ns) =
+    let rest = tally-all ns in
+    let v = sumBy-cons (one Visible) n ns in
+    let h = sumBy-cons (one Hidden) n ns in
+    let d = sumBy-cons (one Disabled) n ns in
+    let here = one-state (n .state) in
+    omega arith
+  where
+    one-state : (s : NodeState) → cond (sameState Visible s) 1 0 + cond (sameState Hidden s) 1 0 + cond (sameState Disabled s) 1 0 ≡ 1
+    one-state Disabled = refl
+    one-state Hidden = refl
+    one-state Visible = refl

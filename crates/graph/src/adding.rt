@@ -1,6 +1,8 @@
 // Making a graph: nodes, edges, and nodes that are disabled.
 ghost use mathlib.Core.Path.{_≡_};
 ghost use Rattle.graph.specs.Model.{model, empty, outcome};
+ghost use Rattle.records.specs.declared.node.NodeState.the-variants.{Visible};
+ghost use Rattle.graph.specs.Tallies.{tally};
 ghost use Rattle.graph.specs.Adding.{addNode, addEdge, known, nodeRecord, statsOf};
 use crate::lists::EdgeLists;
 use crate::raw::MAX_EDGES;
@@ -112,6 +114,13 @@ impl RawInstGraph {
         ensures { λ r. ⌜ now r ≡ model (now (self .entry)) .edges ⌝ }
     {
         &self.edges.rows[0..self.edges.count]
+    }
+
+    // How many nodes are shown.
+    pub fn visible_nodes(&self) -> usize
+        ensures { λ r. ⌜ r ≡ tally Visible (model (now (self .entry)) .nodes) ⌝ }
+    {
+        self.node_count - self.stats.hidden as usize - self.stats.disabled as usize
     }
 
     // How many nodes are hidden and disabled, and the generation.

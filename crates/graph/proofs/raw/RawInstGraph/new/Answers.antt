@@ -1,4 +1,4 @@
-use mathlib.Core.Path.{_≡_, sym, subst}
+use mathlib.Core.Path.{_≡_, refl, sym, subst}
 use borrow.Author.Needs.{needs}
 use Rattle.records.specs.declared.stage.Stage.the-variants.{Open, Sealed}
 use Rattle.graph.specs.Order.{Ends}
@@ -6,7 +6,6 @@ use Rattle.graph.proofs.Counting.{tally-none}
 use Rattle.graph.proofs.Bounds.{ends-none}
 use Rattle.graph.proofs.Stages.{not-sealed}
 use Rattle.graph.proofs.raw.RawInstGraph.new.Needs as need
-use mathlib.Core.Path.{refl}
 
 pub ghost-result : need.ghost-result
 ghost-result c =
@@ -33,6 +32,3 @@ ghost-result c =
         ),
       ),
     )
-
-pub returns : need.returns
-returns c = search needs

@@ -1,0 +1,3 @@
+// What a sheet holds, as a text for support staff: a line for each fact, or one line that says why it was refused.
+pub mod summary;
+pub mod text;
