@@ -16,7 +16,7 @@ use Rattle.records.specs.declared.node.NodeState.the-variants.{Disabled, Hidden
 use Rattle.records.specs.declared.node.Visibility.{Visibility}
 use Rattle.records.specs.Nodes.{noNode, sameState, inState, isDisabled, asked}
 use Rattle.graph.specs.Adding.{nodeAt}
-use Rattle.graph.specs.Hiding.{Change, idle, put, show, showInTurn}
+use Rattle.graph.specs.Hiding.{Change, idle, put, show, showInTurn, showAll}
 use Rattle.graph.specs.HidingLaws.{named, Turned}
 use Rattle.graph.specs.Model.{Model, withNodes, withGeneration}
 use Rattle.graph.proofs.Stages.{asked-enabled}
@@ -184,7 +184,7 @@ counted a (suc n) k h l =
     (cases-eq a k)
 
 -- asking for all numbers is asking for every node
-pub turned-every : (v : Visibility) (m : Model) → Turned v (λ _. true) (showInTurn v (counting 0 (length (m .nodes))) m .changed) m (showInTurn v (counting 0 (length (m .nodes))) m .after)
+pub turned-every : (v : Visibility) (m : Model) → Turned v (λ _. true) (showAll v m .changed) m (showAll v m .after)
 turned-every v m =
     let n = length (m .nodes) in
     let all = turned-all v (counting 0 n) m in

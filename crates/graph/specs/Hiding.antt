@@ -59,6 +59,10 @@ abbrev pub showInTurn : Visibility → List ℕ → Model → Change
 showInTurn v [] m = idle m
 showInTurn v (n ∷ ns) m = andThen (show v n m) (showInTurn v ns)
 
+-- every node's number in turn
+abbrev pub showAll : Visibility → Model → Change
+showAll v m = showInTurn v (counting 0 (length (m .nodes))) m
+
 -- what is left of a list after its first k entries that are shown
 abbrev pub afterShown : ℕ → List ℕ → Model → List ℕ
 afterShown zero ns m = ns
@@ -95,9 +99,8 @@ setVisibility n v m = admitted (admission (m .stage) call.SetVisibility) m (admi
 abbrev pub setVisibilityMany : Visibility → List ℕ → Model → Outcome Bool
 setVisibilityMany v ns m = admitted (admission (m .stage) call.SetVisibility) m (admitted (allKnown ns m) m (told (showInTurn v ns m)))
 
--- every node's number in turn
 abbrev pub resetVisibilityTo : Visibility → Model → Outcome Bool
-resetVisibilityTo v m = admitted (admission (m .stage) call.SetVisibility) m (told (showInTurn v (counting 0 (length (m .nodes))) m))
+resetVisibilityTo v m = admitted (admission (m .stage) call.SetVisibility) m (told (showAll v m))
 
 abbrev pub keepFirstN : List ℕ → ℕ → Model → Outcome Bool
 keepFirstN ns k m = admitted (admission (m .stage) call.SetVisibility) m (admitted (allKnown ns m) m (told (keepFirst k ns m)))

@@ -3,7 +3,7 @@ ghost use mathlib.Core.Path.{_≡_};
 ghost use Rattle.graph.specs.Model.{model, empty, outcome};
 ghost use Rattle.records.specs.declared.node.NodeState.the-variants.{Visible};
 ghost use Rattle.graph.specs.Tallies.{tally};
-ghost use Rattle.graph.specs.Adding.{addNode, addEdge, known, nodeRecord, statsOf};
+ghost use Rattle.graph.specs.Adding.{addNode, addEdge, known, nodeRecord};
 use crate::lists::EdgeLists;
 use crate::raw::MAX_EDGES;
 use crate::raw::MAX_NODES;
@@ -99,7 +99,7 @@ impl RawInstGraph {
         ensures { λ r. ⌜ r ≡ nodeRecord number (model (now (self .entry))) ⌝ }
     {
         self.known(number)?;
-        Ok(self.nodes[number])
+        Ok(self.nodes()[number])
     }
 
     // The nodes by their numbers.
@@ -121,12 +121,5 @@ impl RawInstGraph {
         ensures { λ r. ⌜ r ≡ tally Visible (model (now (self .entry)) .nodes) ⌝ }
     {
         self.node_count - self.stats.hidden as usize - self.stats.disabled as usize
-    }
-
-    // How many nodes are hidden and disabled, and the generation.
-    pub fn stats(&self) -> GraphStats
-        ensures { λ r. ⌜ r ≡ statsOf (model (now (self .entry))) ⌝ }
-    {
-        self.stats
     }
 }

@@ -9,7 +9,7 @@ ghost use Rattle.records.specs.Nodes.{isShown};
 ghost use Rattle.graph.specs.Model.{model, outcome};
 ghost use Rattle.graph.specs.Adding.{nodeAt};
 ghost use Rattle.graph.specs.HidingLaws.{named, Turned, KeptFirst};
-ghost use Rattle.graph.specs.Hiding.{put, Keeps, show, addNodeIn, disable, allKnown, showInTurn, keepFirst, setVisibility, setVisibilityMany, resetVisibilityTo, keepFirstN};
+ghost use Rattle.graph.specs.Hiding.{put, Keeps, show, addNodeIn, disable, allKnown, showInTurn, showAll, keepFirst, setVisibility, setVisibilityMany, resetVisibilityTo, keepFirstN};
 use crate::raw::RawInstGraph;
 use records::node::NodeKind;
 use records::node::NodeState;
@@ -59,14 +59,16 @@ impl RawInstGraph {
         ensures answer { λ r. ⌜ r ≡ show to at (model (now (self .entry))) .changed ⌝ }
         ensures after { λ _. ⌜ model (now (self .exit)) ≡ show to at (model (now (self .entry))) .after ⌝ }
         ensures count { λ _. ⌜ now (self .exit) .«node_count» ≡ now (self .entry) .«node_count» ⌝ }
+        ensures law { λ r. ⌜ Turned to (eqb at) r (model (now (self .entry))) (model (now (self .exit))) ⌝ }
     {
-        let node = self.nodes[at];
+        let node = self.nodes()[at];
         if node.disabled() {
             return false;
         }
         self.set_state(at, to.state())
     }
 
+    // Shows or hides one node.
     pub fn set_visibility(&mut self, number: usize, to: Visibility) -> Result<bool, Refusal>
         ensures whole { λ r. ⌜ outcome r (model (now (self .exit))) ≡ setVisibility number to (model (now (self .entry))) ⌝ }
         ensures law { λ r. ⌜ made r (λ changed. Turned to (eqb number) changed (model (now (self .entry))) (model (now (self .exit)))) ⌝ }
@@ -107,6 +109,7 @@ impl RawInstGraph {
         requires { ⌜ ((k : ℕ) → k < length (now numbers) → getD (now numbers) k 0 < now self .«node_count») ⌝ }
         ensures answer { λ r. ⌜ r ≡ showInTurn to (now (numbers .entry)) (model (now (self .entry))) .changed ⌝ }
         ensures after { λ _. ⌜ model (now (self .exit)) ≡ showInTurn to (now (numbers .entry)) (model (now (self .entry))) .after ⌝ }
+        ensures law { λ r. ⌜ Turned to (named (now (numbers .entry))) r (model (now (self .entry))) (model (now (self .exit))) ⌝ }
     {
         let mut changed = false;
         for number in numbers {
@@ -121,11 +124,19 @@ impl RawInstGraph {
         ensures law { λ r. ⌜ made r (λ changed. Turned to (λ _. true) changed (model (now (self .entry))) (model (now (self .exit)))) ⌝ }
     {
         admit(self.stage, Call::SetVisibility)?;
+        Ok(self.show_all(to))
+    }
+
+    fn show_all(&mut self, to: Visibility) -> bool
+        ensures answer { λ r. ⌜ r ≡ showAll to (model (now (self .entry))) .changed ⌝ }
+        ensures after { λ _. ⌜ model (now (self .exit)) ≡ showAll to (model (now (self .entry))) .after ⌝ }
+        ensures law { λ r. ⌜ Turned to (λ _. true) r (model (now (self .entry))) (model (now (self .exit))) ⌝ }
+    {
         let mut changed = false;
         for at in 0..self.node_count {
             changed |= self.show(at, to);
         }
-        Ok(changed)
+        changed
     }
 
     // Passes the first n entries of the list that are shown, and hides the rest of it.
@@ -142,6 +153,7 @@ impl RawInstGraph {
         requires { ⌜ ((k : ℕ) → k < length (now numbers) → getD (now numbers) k 0 < now self .«node_count») ⌝ }
         ensures answer { λ r. ⌜ r ≡ keepFirst n (now (numbers .entry)) (model (now (self .entry))) .changed ⌝ }
         ensures after { λ _. ⌜ model (now (self .exit)) ≡ keepFirst n (now (numbers .entry)) (model (now (self .entry))) .after ⌝ }
+        ensures law { λ r. ⌜ KeptFirst n (now (numbers .entry)) r (model (now (self .entry))) (model (now (self .exit))) ⌝ }
     {
         let mut left = n;
         let mut changed = false;
@@ -159,6 +171,6 @@ impl RawInstGraph {
         requires { ⌜ at < now self .«node_count» ⌝ }
         ensures { λ r. ⌜ r ≡ isShown (nodeAt (model (now (self .entry))) at) ⌝ }
     {
-        self.nodes[at].visible()
+        self.nodes()[at].visible()
     }
 }

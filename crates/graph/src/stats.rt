@@ -4,7 +4,10 @@ ghost use mathlib.Core.Bool.{cond, not};
 ghost use Prim.Native.Nat.{_+_, _^_, _<_, _≤_};
 ghost use Rattle.records.specs.Nodes.{sameState, inState};
 ghost use Rattle.records.specs.declared.node.NodeState.the-variants.{Hidden, Disabled};
+ghost use Rattle.graph.specs.Adding.{statsOf};
+ghost use Rattle.graph.specs.Model.{model};
 ghost use Rattle.graph.specs.Tallies.{one, risen};
+use crate::raw::RawInstGraph;
 use records::node::Node;
 use records::node::NodeState;
 use records::node::NodeStatePartialEq;
@@ -44,5 +47,13 @@ impl GraphStats {
         }
         node.state = state;
         true
+    }
+}
+
+impl RawInstGraph {
+    pub fn stats(&self) -> GraphStats
+        ensures { λ r. ⌜ r ≡ statsOf (model (now (self .entry))) ⌝ }
+    {
+        self.stats
     }
 }

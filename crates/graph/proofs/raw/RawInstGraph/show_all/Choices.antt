@@ -4,7 +4,7 @@ use Rattle.std.specs.Iters.{counting}
 use Rattle.graph.specs.Model.{model}
 use Rattle.graph.specs.Hiding.{showInTurn}
 use Rattle.graph.proofs.Turns.{also}
-use Rattle.graph.proofs.raw.RawInstGraph.reset_visibility_to.Given as given
+use Rattle.graph.proofs.raw.RawInstGraph.show_all.Given as given
 
 abbrev pub Inv-loop-at : given.InvT-loop-at
 Inv-loop-at l =
