@@ -1,8 +1,7 @@
 -- Going through a node's edge list step by step.
-use mathlib.Core.Path.{_≡_}
 use mathlib.Core.Bool.{cond}
-use mathlib.Core.List.{List, [], _∷_}
-use Prim.Native.Nat.{ℕ, suc, _<_}
+use mathlib.Core.List.{List, []}
+use Prim.Native.Nat.{ℕ, suc}
 use lib.Dec.{ltb}
 use lib.ListN.{length, getD, take}
 use Rattle.std.specs.declared.option.Option.{Option}
@@ -20,13 +19,3 @@ seen d es (Some e) = cond (ltb e (length es)) (neighbours d (history (take (suc 
 -- what is still to come in a graph with these edges
 abbrev pub coming : List Edge → Neighbors → List ℕ
 coming es c = seen (c .direction) es (c .edge)
-
--- a step gives the first of what is to come, and leaves the rest
-abbrev pub Steps : {A : Type 0} → List A → Option A → List A → Type 0
-Steps before (Some x) after = before ≡ x ∷ after
-Steps before None after = (before ≡ []) × (after ≡ [])
-
--- what is given is one of the first n nodes
-abbrev pub Inside : ℕ → Option ℕ → Type 0
-Inside n (Some x) = x < n
-Inside n None = Unit {0}

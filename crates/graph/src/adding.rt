@@ -116,6 +116,20 @@ impl RawInstGraph {
         &self.edges.rows[0..self.edges.count]
     }
 
+    // The nodes in an order in which each edge's source stands before its target; none before the graph is sealed.
+    pub fn order(&self) -> &[u16]
+        ensures { λ r. ⌜ now r ≡ model (now (self .entry)) .order ⌝ }
+    {
+        &self.order[0..self.ordered]
+    }
+
+    // Whether from a node one that is not disabled can be reached; no entries before the graph is sealed.
+    pub fn reach(&self) -> &[bool]
+        ensures { λ r. ⌜ now r ≡ model (now (self .entry)) .reach ⌝ }
+    {
+        &self.reach[0..self.ordered]
+    }
+
     // How many nodes are shown.
     pub fn visible_nodes(&self) -> usize
         ensures { λ r. ⌜ r ≡ tally Visible (model (now (self .entry)) .nodes) ⌝ }

@@ -3,7 +3,7 @@ ghost use mathlib.Core.Path.{_≡_};
 ghost use Prim.Native.Nat.{_≤_};
 ghost use lib.ListN.{length, take};
 ghost use Rattle.records.specs.declared.node.NodeState.the-variants.{Hidden, Disabled};
-ghost use Rattle.records.specs.declared.stage.Stage.the-variants.{Sealed};
+ghost use Rattle.records.specs.declared.stage.Stage.the-variants.{Open, Sealed};
 ghost use Rattle.graph.specs.EdgeLists.{edgesIn};
 ghost use Rattle.graph.specs.Order.{Ends, Within, Complete, Once, Topological};
 ghost use Rattle.graph.specs.Reach.{Yes-or-disabled, Yes-goes-back};
@@ -35,6 +35,8 @@ pub struct RawInstGraph {
     ghost ends: { Ends «node_count» (edgesIn edges) },
     ghost order_room: { length order ≡ 1024 },
     ghost reach_room: { length reach ≡ 1024 },
+    ghost ordered_few: { ordered ≤ 1024 },
+    ghost unordered: { (stage ≡ Open → ordered ≡ 0) },
     ghost all_ordered: { (stage ≡ Sealed → ordered ≡ «node_count») },
     ghost within: { (stage ≡ Sealed → Within «node_count» (take ordered order)) },
     ghost complete: { (stage ≡ Sealed → Complete «node_count» (take ordered order)) },

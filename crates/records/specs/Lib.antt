@@ -3,3 +3,4 @@ pub mod Edges
 pub mod Refusals
 pub mod SheetRefusals
 pub mod Stages
+pub mod Walks

@@ -37,3 +37,8 @@ latest-reversed d (suc k) rows h =
     ap reverse more
     ∙ reverse-append (take k rows) (getD rows k d ∷ [])
     ∙ ap (λ xs. getD rows k d ∷ xs) (latest-reversed d k rows (omega arith))
+
+-- the newest entry and those before it
+pub latest-pop : {A : Type 0} (d : A) (k : ℕ) (rows : List A) → 0 < k → latest d k rows ≡ getD rows (k - 1) d ∷ latest d (k - 1) rows
+latest-pop d zero rows h = absurd (omega arith)
+latest-pop d (suc k) rows h = let same : suc k - 1 ≡ k = omega arith in ap (λ j. getD rows j d ∷ latest d j rows) (sym same)

@@ -1,1 +1,3 @@
 pub mod LatestLaws
+pub mod Filling
+pub mod Marking

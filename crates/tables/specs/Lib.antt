@@ -1,1 +1,5 @@
 pub mod Latest
+pub mod Filled
+pub mod Marks
+pub mod Steps
+pub mod Stacks

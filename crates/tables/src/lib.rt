@@ -1,1 +1,3 @@
-// Tables of a fixed room of which the first entries are in use: the words and lemmas for them.
+// Tables of a fixed room of which the first entries are in use: filling them, and a stack of node numbers.
+pub mod fill;
+pub mod stack;

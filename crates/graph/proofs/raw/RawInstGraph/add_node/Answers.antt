@@ -28,7 +28,7 @@ ghost-self c =
                 g .«order_room»,
                 (
                   g .«reach_room»,
-                  (λ q. absurd (open-still q), (λ q. absurd (open-still q), (λ q. absurd (open-still q), (λ q. absurd (open-still q), (λ q. absurd (open-still q), (λ q. absurd (open-still q), (λ q. absurd (open-still q), tt))))))),
+                  (g .«ordered_few», (g .unordered, (λ q. absurd (open-still q), (λ q. absurd (open-still q), (λ q. absurd (open-still q), (λ q. absurd (open-still q), (λ q. absurd (open-still q), (λ q. absurd (open-still q), (λ q. absurd (open-still q), tt))))))))),
                 ),
               ),
             ),

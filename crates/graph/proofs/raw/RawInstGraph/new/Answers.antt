@@ -24,7 +24,7 @@ ghost-result c =
                 search needs,
                 (
                   search needs,
-                  (λ q. absurd (open-still q), (λ q. absurd (open-still q), (λ q. absurd (open-still q), (λ q. absurd (open-still q), (λ q. absurd (open-still q), (λ q. absurd (open-still q), (λ q. absurd (open-still q), tt))))))),
+                  (search needs, (λ _. refl, (λ q. absurd (open-still q), (λ q. absurd (open-still q), (λ q. absurd (open-still q), (λ q. absurd (open-still q), (λ q. absurd (open-still q), (λ q. absurd (open-still q), (λ q. absurd (open-still q), tt))))))))),
                 ),
               ),
             ),

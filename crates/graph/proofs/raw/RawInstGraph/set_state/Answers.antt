@@ -2,11 +2,11 @@ use Prim.Native.Nat.{ℕ, _<_}
 use mathlib.Core.Path.{_≡_, sym, ap, subst, _∙_}
 use borrow.Author.Needs.{needs}
 use native.Mathlib.Omega.{arith}
-use lib.ListN.{length, getD, take}
+use lib.ListN.{length, take, set}
 use lib.Seq.{take-set-lt}
 use Rattle.std.proofs.shelf.Lists.{getD-take}
-use Rattle.records.specs.declared.node.Node.{Node}
 use Rattle.records.specs.declared.node.NodeState.the-variants.{Hidden, Disabled}
+use Rattle.records.specs.declared.stage.Stage.the-variants.{Sealed}
 use Rattle.records.specs.Nodes.{noNode, isDisabled}
 use Rattle.graph.specs.Reach.{Yes-or-disabled}
 use Rattle.graph.proofs.Counting.{tally-put, tally-le, tally-at, counted-put}
@@ -29,46 +29,9 @@ ghost-self c =
     let there : at < length (take (g .«node_count») (g .nodes)) = omega arith in
     let e = counted-put (g .«node_count») (g .nodes) at x (c .pre .there) (g .counted) in
     let h = tally-put Hidden (g .«node_count») (g .nodes) at x noNode _ _ (c .pre .there) there (g .hides) (c .set-state .ensures .hidden) in
-    let d = tally-put Disabled (g .«node_count») (g .nodes) at x noNode _ _ (c .pre .there) there (g .disables) (c .set-state .ensures .disabled) in (
-      g .few,
-      (
-        e,
-        (
-          h,
-          (
-            d,
-            (
-              g .ends,
-              (
-                g .«order_room»,
-                (
-                  g .«reach_room»,
-                  (
-                    g .«all_ordered»,
-                    (
-                      g .within,
-                      (
-                        g .complete,
-                        (
-                          g .once,
-                          (
-                            g .topological,
-                            (
-                              λ q. subst (λ ns. Yes-or-disabled ns (take (g .ordered) (g .reach))) (sym (take-set-lt (g .«node_count») (g .nodes) at x (c .pre .there))) (yes-put (take (g .«node_count») (g .nodes)) (take (g .ordered) (g .reach)) at x there (c .pre .keeps q ∙ sym (ap isDisabled (c .set-state .ensures .node))) (g .«yes_or_disabled» q)),
-                              (g .«yes_goes_back», tt),
-                            ),
-                          ),
-                        ),
-                      ),
-                    ),
-                  ),
-                ),
-              ),
-            ),
-          ),
-        ),
-      ),
-    )
+    let d = tally-put Disabled (g .«node_count») (g .nodes) at x noNode _ _ (c .pre .there) there (g .disables) (c .set-state .ensures .disabled) in
+    let still : g .stage ≡ Sealed → Yes-or-disabled (take (g .«node_count») (set (g .nodes) at x)) (take (g .ordered) (g .reach)) = λ q. subst (λ ns. Yes-or-disabled ns (take (g .ordered) (g .reach))) (sym (take-set-lt (g .«node_count») (g .nodes) at x (c .pre .there))) (yes-put (take (g .«node_count») (g .nodes)) (take (g .ordered) (g .reach)) at x there (c .pre .keeps q ∙ sym (ap isDisabled (c .set-state .ensures .node))) (g .«yes_or_disabled» q)) in
+    (g .few, (e, (h, (d, (g .ends, (g .«order_room», (g .«reach_room», (g .«ordered_few», (g .unordered, (g .«all_ordered», (g .within, (g .complete, (g .once, (g .topological, (still, (g .«yes_goes_back», tt))))))))))))))))
 
 pub returns : need.returns
 returns c = search (needs, take-set-lt, getD-take)
