@@ -8,3 +8,5 @@ pub mod Turns
 pub mod Following
 pub mod Turning
 pub mod Keeping
+pub mod Standings
+pub mod Seen

@@ -102,6 +102,12 @@ impl RawInstGraph {
         Ok(self.nodes()[number])
     }
 
+    pub fn stage(&self) -> Stage
+        ensures { λ r. ⌜ r ≡ model (now (self .entry)) .stage ⌝ }
+    {
+        self.stage
+    }
+
     // The nodes by their numbers.
     pub fn nodes(&self) -> &[Node]
         ensures { λ r. ⌜ now r ≡ model (now (self .entry)) .nodes ⌝ }

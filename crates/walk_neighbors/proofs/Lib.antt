@@ -1,0 +1,7 @@
+pub mod Stepping
+pub mod Edges
+pub mod Meeting
+pub mod Pushing
+pub mod Running
+pub mod Reached
+pub mod Counting

@@ -1,0 +1,3 @@
+pub mod PastDisabled
+pub mod GivenOut
+pub mod Cursors

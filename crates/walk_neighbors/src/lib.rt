@@ -1,0 +1,3 @@
+// A node's neighbors past disabled nodes.
+pub mod hidden;
+pub mod walk;
