@@ -10,3 +10,4 @@ pub mod Turning
 pub mod Keeping
 pub mod Standings
 pub mod Seen
+pub mod Placing

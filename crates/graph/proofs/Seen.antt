@@ -58,7 +58,7 @@ seen-joins d es n k m =
     along Incoming e h p q = (e, (h, q, p))
 
 pub joins-seen : (d : Direction) (es : List Edge) (n k : ℕ) → Along d es n k → Among k (neighbours d (history es) n)
-joins-seen Outgoing es n k (e , (h , s , t)) =
+joins-seen Outgoing es n k (e, (h, s, t)) =
     let x = getD es e noEdge in subst (λ j. Among j (neighbours Outgoing (history es) n)) t (edge-seen Outgoing (history es) n x (among-reverse x es (getD-among es e noEdge h)) s)
-joins-seen Incoming es n k (e , (h , s , t)) =
+joins-seen Incoming es n k (e, (h, s, t)) =
     let x = getD es e noEdge in subst (λ j. Among j (neighbours Incoming (history es) n)) s (edge-seen Incoming (history es) n x (among-reverse x es (getD-among es e noEdge h)) t)

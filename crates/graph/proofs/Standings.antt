@@ -91,16 +91,16 @@ pub once-append : (xs ys : List ℕ) → Once xs → Once ys → ((n : ℕ) → 
 once-append xs ys a b apart i h =
     ⊎-elim
     (λ (l : i < length xs).
-        let read = getD-append-left xs ys 0 i l in
-        ap (standsAt (xs ++ ys)) read ∙ stands-left xs ys (getD xs i 0) (getD-among xs i 0 l) ∙ a i l)
+    let read = getD-append-left xs ys 0 i l in
+    ap (standsAt (xs ++ ys)) read ∙ stands-left xs ys (getD xs i 0) (getD-among xs i 0 l) ∙ a i l)
     (λ (l : length xs ≤ i).
-        let long = length-append xs ys in
-        let j = i - length xs in
-        let low : j < length ys = omega arith in
-        let read = getD-append-right xs ys (length xs) i 0 refl l in
-        let at = stands-right xs ys (getD ys j 0) (λ m. apart (getD ys j 0) m (getD-among ys j 0 low)) in
-        let there = b j low in
-        ap (standsAt (xs ++ ys)) read ∙ at ∙ omega arith)
+    let long = length-append xs ys in
+    let j = i - length xs in
+    let low : j < length ys = omega arith in
+    let read = getD-append-right xs ys (length xs) i 0 refl l in
+    let at = stands-right xs ys (getD ys j 0) (λ m. apart (getD ys j 0) m (getD-among ys j 0 low)) in
+    let there = b j low in
+    ap (standsAt (xs ++ ys)) read ∙ at ∙ omega arith)
     (cases-lt i (length xs))
 
 pub once-one : (x : ℕ) → Once (x ∷ [])
@@ -140,10 +140,10 @@ fewer (suc n) (suc m) f low same = suc-le-suc (fewer n m g g-low g-same)
     g-low i h =
         ⊎-elim
         (λ (e : f i ≡ n).
-            let is = hit i e in
-            let last = low m (omega arith) in
-            let ne : f m ≡ n → ⊥ = λ q. let s = same i m (omega arith) (omega arith) (e ∙ sym q) in omega arith in
-            omega arith)
+        let is = hit i e in
+        let last = low m (omega arith) in
+        let ne : f m ≡ n → ⊥ = λ q. let s = same i m (omega arith) (omega arith) (e ∙ sym q) in omega arith in
+        omega arith)
         (λ (ne : f i ≡ n → ⊥). let is = miss i ne in let l = low i (omega arith) in omega arith)
         (cases-eq (f i) n)
 
@@ -151,15 +151,15 @@ fewer (suc n) (suc m) f low same = suc-le-suc (fewer n m g g-low g-same)
     g-same i j h k e =
         ⊎-elim
         (λ (p : f i ≡ n).
-            ⊎-elim
-            (λ (q : f j ≡ n). same i j (omega arith) (omega arith) (p ∙ sym q))
-            (λ (q : f j ≡ n → ⊥). let s = same m j (omega arith) (omega arith) (sym (hit i p) ∙ e ∙ miss j q) in absurd (omega arith))
-            (cases-eq (f j) n))
+        ⊎-elim
+        (λ (q : f j ≡ n). same i j (omega arith) (omega arith) (p ∙ sym q))
+        (λ (q : f j ≡ n → ⊥). let s = same m j (omega arith) (omega arith) (sym (hit i p) ∙ e ∙ miss j q) in absurd (omega arith))
+        (cases-eq (f j) n))
         (λ (p : f i ≡ n → ⊥).
-            ⊎-elim
-            (λ (q : f j ≡ n). let s = same i m (omega arith) (omega arith) (sym (miss i p) ∙ e ∙ hit j q) in absurd (omega arith))
-            (λ (q : f j ≡ n → ⊥). same i j (omega arith) (omega arith) (sym (miss i p) ∙ e ∙ miss j q))
-            (cases-eq (f j) n))
+        ⊎-elim
+        (λ (q : f j ≡ n). let s = same i m (omega arith) (omega arith) (sym (miss i p) ∙ e ∙ hit j q) in absurd (omega arith))
+        (λ (q : f j ≡ n → ⊥). same i j (omega arith) (omega arith) (sym (miss i p) ∙ e ∙ miss j q))
+        (cases-eq (f j) n))
         (cases-eq (f i) n)
 
 -- an order that has each of the first n numbers once has n entries

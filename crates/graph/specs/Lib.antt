@@ -8,3 +8,4 @@ pub mod Adding
 pub mod Hiding
 pub mod Cursors
 pub mod HidingLaws
+pub mod Sealing

@@ -4,4 +4,5 @@ pub mod hide;
 pub mod lists;
 pub mod neighbors;
 pub mod raw;
+pub mod sealing;
 pub mod stats;

@@ -1,0 +1,2 @@
+// From which nodes shown nodes, or nodes that are not disabled, can be reached.
+pub mod reach;
