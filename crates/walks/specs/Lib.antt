@@ -1,0 +1,2 @@
+pub mod Exploring
+pub mod Cycles
