@@ -1,4 +1,4 @@
--- Six lines, one after another.
+-- Lines, one after another.
 use mathlib.Core.Path.{_≡_, ap, _∙_}
 use mathlib.Core.List.{List, _++_, append-assoc}
 use Prim.Native.Nat.{ℕ}
@@ -14,3 +14,7 @@ six-lines (Ok x) a b c d e f s₀ s₁ s₂ s₃ s₄ s₅ s₆ h₁ h₂ h₃ h
     let four = h₄ ∙ ap (λ s. s ++ d) three in
     let five = h₅ ∙ ap (λ s. s ++ e) four in
     h₆ ∙ ap (λ s. s ++ f) five ∙ simp append-assoc
+
+pub two-lines : {E : Type 0} (r : Result (Unit {0}) E) (a b s₀ s₁ s₂ : List ℕ) → s₁ ≡ s₀ ++ a → made r (λ _. s₂ ≡ s₁ ++ b) → made r (λ _. s₂ ≡ s₀ ++ (a ++ b))
+two-lines (Err x) a b s₀ s₁ s₂ h₁ h₂ = tt
+two-lines (Ok x) a b s₀ s₁ s₂ h₁ h₂ = h₂ ∙ ap (λ s. s ++ b) h₁ ∙ append-assoc s₀ a b

@@ -4,9 +4,8 @@ ghost use Rattle.std.specs.Of.String.{string-bytes};
 ghost use Rattle.std.specs.Vec.{made};
 ghost use Rattle.sheet.specs.Reading.{sheetRead};
 ghost use Rattle.sheet_report.specs.Reports.{reported};
-use crate::summary::Summary;
+use crate::parts::graph_text;
 use crate::text::refusal_text;
-use crate::text::summary_text;
 use graph::raw::RawInstGraph;
 use sheet::reading::read_sheet;
 use std::alloc::AllocError;
@@ -18,7 +17,7 @@ pub fn report(heap: Global, bytes: &[u8]) -> Result<String, AllocError>
 {
     let mut graph = RawInstGraph::new();
     match read_sheet(&mut graph, bytes) {
-        Ok(()) => summary_text(heap, &Summary::of(&graph)),
+        Ok(()) => graph_text(heap, &graph),
         Err(refusal) => refusal_text(heap, refusal),
     }
 }

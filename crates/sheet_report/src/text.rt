@@ -11,7 +11,12 @@ use std::alloc::AllocError;
 use std::alloc::Global;
 
 // Adds a line with a name and a number.
-fn put_fact(heap: Global, text: &mut String, name: &str, n: usize) -> Result<(), AllocError>
+pub(crate) fn put_fact(
+    heap: Global,
+    text: &mut String,
+    name: &str,
+    n: usize,
+) -> Result<(), AllocError>
     ensures { λ r. ⌜ made r (λ _. string-bytes (now (text .exit)) ≡ string-bytes (now (text .entry)) ++ fact (now (name .entry)) n) ⌝ }
 {
     let line = format!(heap, "{name} {n}\n")?;

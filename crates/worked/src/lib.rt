@@ -1,6 +1,10 @@
-// Examples that are run: the graph's limits, its lists, sheets whole and damaged, and reports.
+// Examples that are run: the graph's limits and lists, its order, neighbors past disabled nodes, sheets and reports.
 #[cfg(test)]
 mod limits;
+#[cfg(test)]
+mod orders;
+#[cfg(test)]
+mod past_disabled;
 #[cfg(test)]
 mod reports;
 #[cfg(test)]

@@ -78,6 +78,39 @@ pub const DIAMOND: [u8; 49] = [
 // One node, and an edge from it to node 5.
 pub const LOST_EDGE: [u8; 19] = [1, 0, 0, 0, 14, 0, 1, 2, 1, 0, 0, 0, 0, 0, 1, 0, 0, 0, 5];
 
+// Two hidden enodes, and an edge from each to the other.
+pub const CIRCLE: [u8; 29] = [
+    1,
+    0,
+    0,
+    0,
+    24,
+    0,
+    2,
+    1,
+    1,
+    0,
+    0,
+    0,
+    0,
+    1,
+    1,
+    0,
+    0,
+    0,
+    1,
+    0,
+    2,
+    0,
+    0,
+    0,
+    1,
+    0,
+    1,
+    0,
+    0,
+];
+
 fn read(bytes: &[u8]) -> Result<(), SheetRefusal> {
     let mut graph = RawInstGraph::new();
     read_sheet(&mut graph, bytes)

@@ -1,4 +1,4 @@
-use mathlib.Core.Path.{_≡_, refl, sym, ap, subst, _∙_}
+use mathlib.Core.Path.{_≡_, refl, ap, subst, _∙_}
 use Prim.Native.Nat.{ℕ}
 use native.Mathlib.Omega.{arith}
 use Rattle.std.specs.declared.result.Result.{Result}
@@ -8,13 +8,11 @@ use Rattle.std.specs.Vec.{made}
 use Rattle.records.specs.declared.sheet_refusal.SheetRefusal.{SheetRefusal}
 use Rattle.graph.specs.Model.{Model}
 use Rattle.sheet.specs.Reading.{sheetRead, answered, left}
-use Rattle.sheet_report.specs.Reports.{reported}
-use Rattle.sheet_report.specs.Summaries.{summaryOf}
-use Rattle.sheet_report.specs.Texts.{summaryText}
+use Rattle.sheet_report.specs.Reports.{graphText, reported}
 use Rattle.sheet_report.proofs.report.report.Needs as need
 
--- of a sheet that was read, the report is the summary of the graph
-read-report : (o : Result Model SheetRefusal) → Ok tt ≡ answered o → summaryText (summaryOf (left o)) ≡ reported o
+-- of a sheet that was read, the report is that on the graph
+read-report : (o : Result Model SheetRefusal) → Ok tt ≡ answered o → graphText (left o) ≡ reported o
 read-report (Ok m) e = refl
 read-report (Err x) e = let z : _≡_ {A = ℕ} 0 1 = cc in absurd (omega arith)
 
@@ -22,5 +20,5 @@ pub returns-in-Ok : need.returns-in-Ok
 returns-in-Ok c =
     let o = sheetRead (c .args .bytes .now) in
     let said = c .in-Ok .ensures tt in
-    let same = ap summaryText (c .of .ensures ∙ ap summaryOf (said .after)) ∙ read-report o (said .answer) in
-    subst (λ t. made (c .summary-text .result) (λ s. string-bytes s ≡ t)) same (c .summary-text .ensures)
+    let same = ap graphText (said .after) ∙ read-report o (said .answer) in
+    subst (λ t. made (c .graph-text .result) (λ s. string-bytes s ≡ t)) same (c .graph-text .ensures)
