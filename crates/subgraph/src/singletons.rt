@@ -66,7 +66,7 @@ impl Subgraphs {
     }
 
     // All nodes, each edge's source before its target.
-    pub fn topo_order(&self) -> &[u16]
+    pub fn topo_node_indices(&self) -> &[u16]
         ensures { λ r. ⌜ now r ≡ inOrder (now (self .entry)) ⌝ }
     {
         &self.order[0..self.ordered]

@@ -33,7 +33,7 @@ fn the_other_root_comes_first() -> Result<(), Fail> {
     check_eq(graph.add_edge(1, 2), Ok(1))?;
     let parts = parts_of(&graph)?;
     check_eq(parts.count, 1)?;
-    check_eq(parts.topo_order(), [1u16, 0, 2].as_slice())
+    check_eq(parts.topo_node_indices(), [1u16, 0, 2].as_slice())
 }
 
 #[test]
