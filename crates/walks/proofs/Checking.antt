@@ -64,7 +64,7 @@ module _ (es : List Edge) (N : ℕ) (inside : (x y : ℕ) → Joins es x y → (
       err : (m : ℕ) × (checked es N n ≡ Err (ClosedWalk m)) × Lowest (Joins es) m → Found (suc n) (checked es N (suc n))
       err (m, is, low) = inr (m, checked-stays es N n (suc n) (ClosedWalk m) (omega arith) is, low)
 
-tested : (m : Model) → ((x y : ℕ) → Joins (m .edges) x y → (x < length (m .nodes)) × (y < length (m .nodes))) → (room : ℕ) → Tested m room (acyclicAnswer m room)
+pub tested : (m : Model) → ((x y : ℕ) → Joins (m .edges) x y → (x < length (m .nodes)) × (y < length (m .nodes))) → (room : ℕ) → Tested m room (acyclicAnswer m room)
 tested m inside room =
     ⊎-elim
     (λ (lt : room < N). subst (Tested m room) (sym (cond-true (ltb room N) (Err (TableTooShort N)) (checked es N N) (lt-ltb room N lt))) (too-short lt))

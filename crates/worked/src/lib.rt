@@ -8,4 +8,6 @@ mod past_disabled;
 #[cfg(test)]
 mod reports;
 #[cfg(test)]
+mod sealed;
+#[cfg(test)]
 mod sheets;
