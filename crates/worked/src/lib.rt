@@ -1,4 +1,7 @@
-// Examples that are run: the graph's limits and lists, its order, neighbors past disabled nodes, sheets and reports.
+// Examples that are run: the graph's limits and lists, its order, neighbors past disabled nodes, sealed graphs,
+// analyses, sheets and reports.
+#[cfg(test)]
+mod analyses;
 #[cfg(test)]
 mod limits;
 #[cfg(test)]
