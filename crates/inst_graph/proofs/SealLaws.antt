@@ -20,7 +20,10 @@ use Rattle.records.specs.declared.node.Node.{Node}
 use Rattle.records.specs.declared.node.Place.{Place}
 use Rattle.records.specs.declared.refusal.Refusal.{Refusal}
 use Rattle.records.specs.declared.refusal.Refusal.the-variants.{TableTooShort, ClosedWalk}
+use Rattle.records.specs.declared.refusal.Refusal.the-variants as refusal
 use Rattle.records.specs.declared.stage.Call.the-variants.{Seal}
+use Rattle.records.specs.declared.stage.Stage.{Stage}
+use Rattle.records.specs.declared.stage.Stage.the-variants.{Open, Sealed}
 use Rattle.records.specs.Nodes.{noNode}
 use Rattle.records.specs.Stages.{admission}
 use Rattle.records.specs.Walks.{Touched, Joins}
@@ -29,16 +32,17 @@ use Rattle.graph.specs.declared.raw.RawInstGraph.{RawInstGraph}
 use Rattle.graph.specs.Model.{Model, Outcome, outcome, admitted, model}
 use Rattle.graph.specs.Order.{Ends, Within, Complete, Once, Topological}
 use Rattle.graph.specs.Sealing.{inPlace, withPlaces, sealedIn, withReach}
-use Rattle.walks.specs.Cycles.{acyclicAnswer, checked, leftBlank}
+use Rattle.walks.specs.Cycles.{acyclicAnswer, checked, leftBlank, Tested}
 use Rattle.walks.proofs.Checking.{tested}
 use Rattle.walks.proofs.Seeing.{edges-inside}
 use Rattle.subgraph.specs.declared.places.Subgraphs.{Subgraphs}
 use Rattle.subgraph.specs.Places.{Placed}
 use Rattle.subgraph.specs.Subgraphs.{Summary, unlessRefused, inOrder}
 use Rattle.subgraph.specs.WholePartitions.{Whole, withSingletons, wholePartition, toldWhole, LawfulWhole}
+use Rattle.analysis.specs.Runs.{leftBy}
 use Rattle.reconnect.specs.Reach.{isEnabled, TellsReach}
 use Rattle.inst_graph.specs.Reached.{reachTable}
-use Rattle.inst_graph.specs.Seals.{noted, sealedBy, seal, tableLeft, sealTable, placesOf, WellSealed, RefusedWell}
+use Rattle.inst_graph.specs.Seals.{noted, sealedBy, seal, sealTable, placesOf, WellSealed, RefusedWell}
 
 never : {A : Type 0} → _≡_ {A = ℕ} 0 1 → A
 never z = absurd (omega arith)
@@ -58,14 +62,38 @@ placed-alike R t u same law =
       connected = λ x y p q a b j. law .connected x y p q (same x ∙ a) (same y ∙ b) j;
     }
 
--- a partition is refused just as the test before it
-refused-first : (es : List Edge) (n : ℕ) (a : Result (Unit {0}) Refusal) (s : Summary) (e : Refusal) → Err e ≡ withSingletons es n (unlessRefused a s) → a ≡ Err e
-refused-first es n (Ok x) s e q = never cc
-refused-first es n (Err x) s e q = cc
-
+-- a partition comes after a test that was passed
 passed-first : (es : List Edge) (n : ℕ) (a : Result (Unit {0}) Refusal) (s : Summary) (w : Whole) → Ok w ≡ withSingletons es n (unlessRefused a s) → a ≡ Ok tt
 passed-first es n (Ok x) s w q = refl
 passed-first es n (Err x) s w q = never cc
+
+-- when sealing is refused: as the test for closed walks is, on a graph that is still open
+module _ (m : Model) (room : ℕ) (law : Tested m room (acyclicAnswer m room)) where
+  open-graph : (a : Result (Unit {0}) Refusal) (s : Summary) → acyclicAnswer m room ≡ a → m .stage ≡ Open → RefusedWell m room (sealedBy (withSingletons (m .edges) (length (m .nodes)) (unlessRefused a s)) m .answer)
+  open-graph (Ok x) s is at =
+      record {
+        closed = λ n. (λ q. never cc, λ h. let z = law .closed n .1 (h .1, h .2) in never cc);
+        short = λ n. (λ q. never cc, λ h. let z = law .short n .1 (h .1, h .2) in never cc);
+      }
+  open-graph (Err e) s is at =
+      record {
+        closed = λ n. (λ q. (let t = law .closed n .0 (is ∙ cc) in (at, t .0, t .1)), λ h. let z = law .closed n .1 (h .1, h .2) in cc);
+        short = λ n. (λ q. (let t = law .short n .0 (is ∙ cc) in (at, t .0, t .1)), λ h. let z = law .short n .1 (h .1, h .2) in cc);
+      }
+
+  sealed-graph : m .stage ≡ Sealed → RefusedWell m room (Err refusal.Sealed)
+  sealed-graph at = record { closed = λ n. (λ q. never cc, λ h. let z = h .0 in never cc); short = λ n. (λ q. never cc, λ h. let z = h .0 in never cc) }
+
+  by-stage : (s : Stage) → m .stage ≡ s → RefusedWell m room (seal room m .answer)
+  by-stage Open at =
+      subst (λ a. RefusedWell m room (admitted a m (sealedBy (wholePartition m room) m) .answer)) (ap (λ s. admission s Seal) (sym at)) (open-graph (acyclicAnswer m room) _ refl at)
+  by-stage Sealed at =
+      subst (λ a. RefusedWell m room (admitted a m (sealedBy (wholePartition m room) m) .answer)) (ap (λ s. admission s Seal) (sym at)) (sealed-graph at)
+
+-- whatever sealing answers
+pub refusals : (g : RawInstGraph) (room : ℕ) (r : Result ℕ Refusal) (after : Model) → outcome r after ≡ seal room (model g) → RefusedWell (model g) room r
+refusals g room r after is =
+    subst (RefusedWell (model g) room) (sym (ap (λ (o : Outcome ℕ). o .answer) is)) (by-stage (model g) room (tested (model g) (edges-inside g) room) (model g .stage) refl)
 
 module _ (g : RawInstGraph) (work : List Bool) (passed : Ok tt ≡ admission (model g .stage) Seal) where
   abbrev m : Model
@@ -81,21 +109,12 @@ module _ (g : RawInstGraph) (work : List Bool) (passed : Ok tt ≡ admission (mo
   is-seal = ap (λ a. admitted a m (sealedBy (wholePartition m room) m)) passed
 
   is-table : leftBlank (length (model g .nodes)) work ≡ sealTable (model g) work
-  is-table = ap (λ a. tableLeft a N work) passed
+  is-table = ap (λ a. leftBy a (leftBlank N work) work) passed
 
   -- ---- refused
   module _ (e : Refusal) (answer : Err e ≡ wholePartition (model g) (length work)) where
     pub refused-whole : outcome {A = ℕ} (Err e) (model g) ≡ seal (length work) (model g)
     refused-whole = ap (λ w. sealedBy w m) answer ∙ is-seal
-
-    pub refused-well : RefusedWell (model g) (length work) (Err e)
-    refused-well =
-        let law = tested m (edges-inside g) room in
-        let first = refused-first (m .edges) N (acyclicAnswer m room) _ e answer in
-        record {
-          closed = λ n q. law .closed n (first ∙ cc);
-          short = λ n q. law .short n (first ∙ cc);
-        }
 
   pub refused-table : (after : List Bool) → after ≡ leftBlank (length (model g .nodes)) work → after ≡ sealTable (model g) work
   refused-table after is = is ∙ is-table
@@ -174,6 +193,3 @@ module _ (g : RawInstGraph) (work : List Bool) (passed : Ok tt ≡ admission (mo
             topological = subst (Topological (m .edges)) order (law .topological);
             tells = subst (λ q. TellsReach isEnabled q (two .reach)) (sym second) tells;
           }
-
-      pub sealed-unrefused : RefusedWell (model g) (length work) (Ok (s .count))
-      sealed-unrefused = record { closed = λ n q. never cc; short = λ n q. never cc }

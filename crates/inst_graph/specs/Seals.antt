@@ -1,8 +1,9 @@
 -- Sealing a graph.
 use mathlib.Core.Path.{_≡_}
+use mathlib.Core.Logic.{_↔_}
 use mathlib.Core.Bool.{Bool}
 use mathlib.Core.List.{List, map}
-use Prim.Native.Nat.{ℕ, _<_}
+use Prim.Native.Nat.{ℕ, _<_, _≤_}
 use lib.ListN.{length}
 use Rattle.std.specs.declared.option.Option.{Option}
 use Rattle.std.specs.declared.result.Result.{Result}
@@ -12,6 +13,7 @@ use Rattle.records.specs.declared.node.Place.{Place}
 use Rattle.records.specs.declared.refusal.Refusal.{Refusal}
 use Rattle.records.specs.declared.refusal.Refusal.the-variants.{TableTooShort, ClosedWalk}
 use Rattle.records.specs.declared.stage.Call.the-variants.{Seal}
+use Rattle.records.specs.declared.stage.Stage.the-variants.{Open}
 use Rattle.records.specs.Stages.{admission}
 use Rattle.records.specs.Walks.{Acyclic, Lowest, Joins}
 use Rattle.graph.specs.Model.{Model, Outcome, done, refused, admitted}
@@ -20,6 +22,7 @@ use Rattle.graph.specs.Sealing.{sealedIn, withReach}
 use Rattle.walks.specs.Cycles.{leftBlank}
 use Rattle.subgraph.specs.Places.{Placed}
 use Rattle.subgraph.specs.WholePartitions.{Whole, wholePartition}
+use Rattle.analysis.specs.Runs.{leftBy}
 use Rattle.reconnect.specs.Reach.{isEnabled, TellsReach}
 use Rattle.inst_graph.specs.Reached.{reachTable}
 
@@ -37,12 +40,8 @@ abbrev pub seal : ℕ → Model → Outcome ℕ
 seal room m = admitted (admission (m .stage) Seal) m (sealedBy (wholePartition m room) m)
 
 -- the work table afterwards: as it was where the call does not belong to the stage
-abbrev pub tableLeft : Result (Unit {0}) Refusal → ℕ → List Bool → List Bool
-tableLeft (Ok _) n work = leftBlank n work
-tableLeft (Err e) n work = work
-
 abbrev pub sealTable : Model → List Bool → List Bool
-sealTable m work = tableLeft (admission (m .stage) Seal) (length (m .nodes)) work
+sealTable m work = leftBy (admission (m .stage) Seal) (leftBlank (length (m .nodes)) work) work
 
 -- ---- the laws
 abbrev pub placesOf : List Node → List (Option Place)
@@ -61,7 +60,7 @@ pub record WellSealed (before after : Model) : Type 0 where
   -- the reach table tells from which nodes one that is not disabled can be reached
   pub tells : TellsReach isEnabled after (after .reach)
 
--- what a refusal tells of the graph
+-- when a graph that is still open is refused, in both directions
 pub record RefusedWell (m : Model) (room : ℕ) (r : Result ℕ Refusal) : Type 0 where
-  pub closed : (n : ℕ) → r ≡ Err (ClosedWalk n) → Lowest (Joins (m .edges)) n
-  pub short : (n : ℕ) → r ≡ Err (TableTooShort n) → (n ≡ length (m .nodes)) × (room < length (m .nodes))
+  pub closed : (n : ℕ) → (r ≡ Err (ClosedWalk n)) ↔ ((m .stage ≡ Open) × (length (m .nodes) ≤ room) × Lowest (Joins (m .edges)) n)
+  pub short : (n : ℕ) → (r ≡ Err (TableTooShort n)) ↔ ((m .stage ≡ Open) × (n ≡ length (m .nodes)) × (room < length (m .nodes)))

@@ -13,7 +13,7 @@ use Rattle.std.specs.declared.result.Result.the-variants.{Ok, Err}
 use Rattle.records.specs.declared.edge.Edge.{Edge}
 use Rattle.records.specs.declared.refusal.Refusal.{Refusal}
 use Rattle.records.specs.declared.refusal.Refusal.the-variants.{TableTooShort, ClosedWalk}
-use Rattle.records.specs.Walks.{Joins, Leads, Lowest}
+use Rattle.records.specs.Walks.{Joins, Leads, Lowest, Acyclic}
 use Rattle.tables.specs.Filled.{filled}
 use Rattle.graph.specs.Model.{Model}
 use Rattle.walks.specs.Cycles.{comesBack, andThen, checked, acyclicAnswer, leftBlank, Tested}
@@ -68,7 +68,7 @@ pub tested : (m : Model) → ((x y : ℕ) → Joins (m .edges) x y → (x < leng
 tested m inside room =
     ⊎-elim
     (λ (lt : room < N). subst (Tested m room) (sym (cond-true (ltb room N) (Err (TableTooShort N)) (checked es N N) (lt-ltb room N lt))) (too-short lt))
-    (λ (ge : N ≤ room). subst (Tested m room) (sym (cond-false (ltb room N) (Err (TableTooShort N)) (checked es N N) (le-ltb room N ge))) (⊎-elim no-walk closed-walk (found es N inside N (omega arith))))
+    (λ (ge : N ≤ room). subst (Tested m room) (sym (cond-false (ltb room N) (Err (TableTooShort N)) (checked es N N) (le-ltb room N ge))) (⊎-elim (no-walk ge) (closed-walk ge) (found es N inside N (omega arith))))
     (cases-lt room N)
   where
     other : {A : Type 0} → _≡_ {A = ℕ} 0 1 → A
@@ -81,13 +81,43 @@ tested m inside room =
     es = m .edges
 
     too-short : room < N → Tested m room (Err (TableTooShort N))
-    too-short lt = record { none = λ e. other (cc); closed = λ n e. other (cc); short = λ n e. (cc, lt) }
+    too-short lt =
+        record {
+          passed = (λ e. other cc, λ h. let ge = h .0 in absurd (omega arith));
+          closed = λ n. (λ e. other cc, λ h. let ge = h .0 in absurd (omega arith));
+          short = λ n. (λ e. (cc, lt), λ h. ap (λ k. Err (TableTooShort k)) (sym (h .0)));
+        }
 
-    no-walk : ((checked es N N ≡ Ok tt) × ((k : ℕ) → k < N → Leads (Joins es) k k → ⊥)) → Tested m room (checked es N N)
-    no-walk (is, none) = subst (Tested m room) (sym is) (record { none = λ e n w. none n (leads-inside es N n (w .0) n inside (w .1)) w; closed = λ n e. other (cc); short = λ n e. other (cc) })
+    no-walk : N ≤ room → ((checked es N N ≡ Ok tt) × ((k : ℕ) → k < N → Leads (Joins es) k k → ⊥)) → Tested m room (checked es N N)
+    no-walk ge (is, none) =
+        let acyclic : Acyclic (Joins es) = λ n w. none n (leads-inside es N n (w .0) n inside (w .1)) w in
+        subst (Tested m room) (sym is)
+        (record {
+          passed = (λ e. (ge, acyclic), λ h. refl);
+          closed = λ n. (λ e. other cc, λ h. absurd (acyclic n (h .1 .closed)));
+          short = λ n. (λ e. other cc, λ h. let lt = h .1 in absurd (omega arith));
+        })
 
-    closed-walk : (k : ℕ) × (checked es N N ≡ Err (ClosedWalk k)) × Lowest (Joins es) k → Tested m room (checked es N N)
-    closed-walk (k, is, low) = subst (Tested m room) (sym is) (record { none = λ e. other (cc); closed = λ n e. let same : k ≡ n = cc in subst (Lowest (Joins es)) same low; short = λ n e. other (cc) })
+    -- there is one lowest node only
+    same-lowest : (k n : ℕ) → Lowest (Joins es) k → Lowest (Joins es) n → k ≡ n
+    same-lowest k n a b =
+        ⊎-elim
+        (λ (lt : k < n). absurd (b .none-below k lt (a .closed)))
+        (λ (ge : n ≤ k).
+        ⊎-elim
+        (λ (lt : n < k). absurd (a .none-below n lt (b .closed)))
+        (λ (le : k ≤ n). omega arith)
+        (cases-lt n k))
+        (cases-lt k n)
+
+    closed-walk : N ≤ room → (k : ℕ) × (checked es N N ≡ Err (ClosedWalk k)) × Lowest (Joins es) k → Tested m room (checked es N N)
+    closed-walk ge (k, is, low) =
+        subst (Tested m room) (sym is)
+        (record {
+          passed = (λ e. other cc, λ h. absurd (h .1 k (low .closed)));
+          closed = λ n. (λ e. (let same : k ≡ n = cc in (ge, subst (Lowest (Joins es)) same low)), λ h. ap (λ x. Err (ClosedWalk x)) (same-lowest k n low (h .1)));
+          short = λ n. (λ e. other cc, λ h. let lt = h .1 in absurd (omega arith));
+        })
 
 -- what is to show of a test that comes to all nodes
 pub record Complete (m : Model) (work : List Bool) (r : Result (Unit {0}) Refusal) (after : List Bool) : Type 0 where

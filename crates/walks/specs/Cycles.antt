@@ -1,8 +1,9 @@
 -- The test for closed walks.
 use mathlib.Core.Path.{_≡_}
+use mathlib.Core.Logic.{_↔_}
 use mathlib.Core.Bool.{Bool, false, cond}
 use mathlib.Core.List.{List, []}
-use Prim.Native.Nat.{ℕ, suc, zero, _<_}
+use Prim.Native.Nat.{ℕ, suc, zero, _<_, _≤_}
 use lib.Dec.{ltb}
 use lib.ListN.{length, getD, replicate}
 use Rattle.std.specs.declared.result.Result.{Result}
@@ -41,8 +42,8 @@ acyclicAnswer m room = cond (ltb room (length (m .nodes))) (Err (TableTooShort (
 abbrev pub leftBlank : ℕ → List Bool → List Bool
 leftBlank n work = cond (ltb (length work) n) work (filled n false work)
 
--- ---- the law
+-- ---- the law, in both directions
 pub record Tested (m : Model) (room : ℕ) (r : Result (Unit {0}) Refusal) : Type 0 where
-  pub none : r ≡ Ok tt → Acyclic (Joins (m .edges))
-  pub closed : (n : ℕ) → r ≡ Err (ClosedWalk n) → Lowest (Joins (m .edges)) n
-  pub short : (n : ℕ) → r ≡ Err (TableTooShort n) → (n ≡ length (m .nodes)) × (room < length (m .nodes))
+  pub passed : (r ≡ Ok tt) ↔ ((length (m .nodes) ≤ room) × Acyclic (Joins (m .edges)))
+  pub closed : (n : ℕ) → (r ≡ Err (ClosedWalk n)) ↔ ((length (m .nodes) ≤ room) × Lowest (Joins (m .edges)) n)
+  pub short : (n : ℕ) → (r ≡ Err (TableTooShort n)) ↔ ((n ≡ length (m .nodes)) × (room < length (m .nodes)))

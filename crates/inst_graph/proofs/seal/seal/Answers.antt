@@ -10,7 +10,7 @@ use Rattle.graph.specs.Model.{Model, model, outcome}
 use Rattle.std.specs.Vec.{made}
 use lib.ListN.{length, take}
 use Rattle.inst_graph.specs.Seals.{seal, sealTable, WellSealed, RefusedWell}
-use Rattle.inst_graph.proofs.SealLaws.{refused-whole, refused-well, refused-table, sealed-whole, sealed-table, sealed-well, sealed-unrefused}
+use Rattle.inst_graph.proofs.SealLaws.{refusals, refused-whole, refused-table, sealed-whole, sealed-table, sealed-well}
 use Rattle.inst_graph.proofs.Noted.{cut}
 use Rattle.graph.specs.Sealing.{sealedIn}
 use Rattle.subgraph.specs.Subgraphs.{inOrder}
@@ -33,11 +33,12 @@ returns-in-Break-parts c =
     let r = c .from-residual-in-Break-parts .result in
     let is = err-is r e (c .from-residual-in-Break-parts .ensures .1) in
     let adm = c .in-Continue-admit .ensures tt ∙ ap ofOpen (c .stage .ensures) in
+    let whole = ap (λ x. outcome x (model g)) is ∙ refused-whole g work adm e (was .answer) in
     record {
-      whole = ap (λ x. outcome x (model g)) is ∙ refused-whole g work adm e (was .answer);
+      whole = whole;
       table = refused-table g work adm (c .subgraphs .last .work) (was .table);
       law = no-law r e (λ _. WellSealed (model g) (model g)) is;
-      refusals = subst (RefusedWell (model g) (length work)) (sym is) (refused-well g work adm e (was .answer));
+      refusals = refusals g (length work) r (model g) whole;
     }
 
 pub returns : need.returns
@@ -53,9 +54,10 @@ returns c =
     let first : one ≡ sealedIn (take (length (model g .nodes)) (s .places)) (inOrder s) (model g) =
     c .seal-in-order .ensures ∙ ap (λ l. sealedIn l (c .topo-node-indices .result .now) (model g)) places ∙ ap (λ o. sealedIn (take (length (model g .nodes)) (s .places)) o (model g)) (c .topo-node-indices .ensures) in
     let noted = c .note-reach .ensures in
+    let whole = sealed-whole g work adm s (was .answer) (was .law) one two first (noted .after) in
     record {
-      whole = sealed-whole g work adm s (was .answer) (was .law) one two first (noted .after);
+      whole = whole;
       table = sealed-table g work adm s (was .answer) (was .law) one two first (noted .after) (c .subgraphs .last .work) (c .note-reach .last .work) (was .table) (noted .table);
       law = sealed-well g work adm s (was .answer) (was .law) one two first (noted .after) (noted .tells);
-      refusals = sealed-unrefused g work adm s (was .answer) (was .law) one two first (noted .after);
+      refusals = refusals g (length work) (Ok (s .count)) two whole;
     }

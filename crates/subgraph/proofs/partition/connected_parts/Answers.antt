@@ -35,5 +35,5 @@ returns c =
     record {
       answer = answer g work (sym (t .answer)) v (t .table) f a s fl;
       table = table g work (sym (t .answer)) v (t .table) f a s fl (c .fill .last .table) (c .fill .ensures ∙ ap (λ k. filled k false f) (ap length (c .nodes .ensures)));
-      law = c .partition-subgraphs .ensures .law (t .law .none refl);
+      law = c .partition-subgraphs .ensures .law (t .law .passed .0 refl .1);
     }
