@@ -15,8 +15,8 @@ use Rattle.records.specs.declared.refusal.Refusal.the-variants.{StillOpen, Tabl
 use Rattle.records.specs.declared.stage.Stage.{Stage}
 use Rattle.records.specs.declared.stage.Stage.the-variants.{Open, Sealed}
 use Rattle.records.specs.Stages.{ofSealed}
-use Rattle.graph.specs.Model.{Model}
-use Rattle.analysis.specs.Runs.{roomFor, runAnswer, andThen}
+use Rattle.graph.specs.Model.{Model, unlessRefused}
+use Rattle.analysis.specs.Runs.{roomFor, runAnswer}
 
 pub is-sealed : (s : Stage) → Ok tt ≡ ofSealed s → s ≡ Sealed
 is-sealed Sealed e = refl
@@ -32,7 +32,7 @@ has-room entries m e =
     (cases-lt entries (length (m .nodes)))
 
 pub done-answer : (entries : ℕ) (m : Model) → m .stage ≡ Sealed → Ok tt ≡ roomFor entries m → runAnswer entries m ≡ Ok tt
-done-answer entries m s e = ap (λ t. andThen (ofSealed t) (roomFor entries m)) s ∙ sym e
+done-answer entries m s e = ap (λ t. unlessRefused (ofSealed t) (roomFor entries m)) s ∙ sym e
 
 -- a run that was done had a sealed graph, and an entry for each node
 pub done-says : (entries : ℕ) (m : Model) → runAnswer entries m ≡ Ok tt → (m .stage ≡ Sealed) × (length (m .nodes) ≤ entries)
@@ -40,6 +40,6 @@ done-says entries m ok = staged (m .stage) refl
   where
     staged : (s : Stage) → m .stage ≡ s → (m .stage ≡ Sealed) × (length (m .nodes) ≤ entries)
     staged Open q =
-        let refused : runAnswer entries m ≡ Err StillOpen = ap (λ t. andThen (ofSealed t) (roomFor entries m)) q in
+        let refused : runAnswer entries m ≡ Err StillOpen = ap (λ t. unlessRefused (ofSealed t) (roomFor entries m)) q in
         let z : _≡_ {A = ℕ} 0 1 = cc in absurd (omega arith)
-    staged Sealed q = (q, has-room entries m (sym ok ∙ ap (λ t. andThen (ofSealed t) (roomFor entries m)) q))
+    staged Sealed q = (q, has-room entries m (sym ok ∙ ap (λ t. unlessRefused (ofSealed t) (roomFor entries m)) q))

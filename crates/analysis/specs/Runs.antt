@@ -10,7 +10,7 @@ use Rattle.records.specs.declared.refusal.Refusal.{Refusal}
 use Rattle.records.specs.declared.refusal.Refusal.the-variants.{TableTooShort}
 use Rattle.records.specs.declared.stage.Call.the-variants.{TopoAnalysis}
 use Rattle.records.specs.Stages.{admission}
-use Rattle.graph.specs.Model.{Model}
+use Rattle.graph.specs.Model.{Model, unlessRefused}
 use Rattle.analysis.specs.Near.{nearOf}
 use Rattle.analysis.specs.Rule.{Meaning, valueTable}
 
@@ -19,17 +19,12 @@ abbrev pub walkAt : Bool → List ℕ → ℕ → ℕ
 walkAt true order i = getD order i 0
 walkAt false order i = getD order (length order - 1 - i) 0
 
--- one test after another
-abbrev pub andThen : Result (Unit {0}) Refusal → Result (Unit {0}) Refusal → Result (Unit {0}) Refusal
-andThen (Ok _) r = r
-andThen (Err e) r = Err e
-
 -- a table has an entry for each node
 abbrev pub roomFor : ℕ → Model → Result (Unit {0}) Refusal
 roomFor entries m = cond (ltb entries (length (m .nodes))) (Err (TableTooShort (length (m .nodes)))) (Ok tt)
 
 abbrev pub runAnswer : ℕ → Model → Result (Unit {0}) Refusal
-runAnswer entries m = andThen (admission (m .stage) TopoAnalysis) (roomFor entries m)
+runAnswer entries m = unlessRefused (admission (m .stage) TopoAnalysis) (roomFor entries m)
 
 -- a run that is done leaves the value table, and what lay past it; one that is refused leaves the table as it was
 abbrev pub leftBy : {V : Type 0} → Result (Unit {0}) Refusal → List V → List V → List V

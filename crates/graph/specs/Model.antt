@@ -64,3 +64,8 @@ refused e m = outcome (Err e) m
 abbrev pub admitted : {A : Type 0} → Result (Unit {0}) Refusal → Model → Outcome A → Outcome A
 admitted (Ok _) m o = o
 admitted (Err e) m o = refused e m
+
+-- an answer, unless a test before it refused
+abbrev pub unlessRefused : {A : Type 0} → Result (Unit {0}) Refusal → Result A Refusal → Result A Refusal
+unlessRefused (Ok _) r = r
+unlessRefused (Err e) r = Err e

@@ -15,10 +15,10 @@ use Rattle.records.specs.declared.stage.Call.the-variants.{TopoAnalysis}
 use Rattle.records.specs.declared.stage.Stage.the-variants.{Sealed}
 use Rattle.records.specs.Stages.{admission}
 use Rattle.tables.specs.Filled.{filled}
-use Rattle.graph.specs.Model.{Model}
+use Rattle.graph.specs.Model.{Model, unlessRefused}
 use Rattle.analysis.specs.Rule.{worth}
 use Rattle.analysis.specs.Near.{nearOf}
-use Rattle.analysis.specs.Runs.{andThen, roomFor, runAnswer, runTable, leftBy}
+use Rattle.analysis.specs.Runs.{roomFor, runAnswer, runTable, leftBy}
 use Rattle.reconnect.specs.Reach.{reachMeaning, isEnabled}
 use Rattle.inst_graph.specs.Reached.{reachTable}
 
@@ -32,7 +32,7 @@ length-reach m = length-map-counting (worth (reachMeaning isEnabled) (m .nodes) 
 module _ (m : Model) (work : List Bool) (sealed : m .stage ≡ Sealed) (room : length (m .nodes) ≤ length work) where
   pub run-done : runAnswer (length work) m ≡ Ok tt
   run-done =
-      ap (λ s. andThen (admission s TopoAnalysis) (roomFor (length work) m)) sealed
+      ap (λ s. unlessRefused (admission s TopoAnalysis) (roomFor (length work) m)) sealed
       ∙ cond-false (ltb (length work) (length (m .nodes))) (Err (TableTooShort (length (m .nodes)))) (Ok tt) (le-ltb (length work) (length (m .nodes)) room)
 
   module _ (t : List Bool) (left : t ≡ runTable (reachMeaning isEnabled) false false m work) where

@@ -29,7 +29,7 @@ use Rattle.records.specs.Stages.{admission}
 use Rattle.records.specs.Walks.{Touched, Joins}
 use Rattle.tables.specs.Filled.{filled}
 use Rattle.graph.specs.declared.raw.RawInstGraph.{RawInstGraph}
-use Rattle.graph.specs.Model.{Model, Outcome, outcome, admitted, model}
+use Rattle.graph.specs.Model.{Model, Outcome, outcome, admitted, model, unlessRefused}
 use Rattle.graph.specs.Order.{Ends, Within, Complete, Once, Topological}
 use Rattle.graph.specs.Sealing.{inPlace, withPlaces, sealedIn, withReach}
 use Rattle.walks.specs.Cycles.{acyclicAnswer, checked, leftBlank, Tested}
@@ -37,7 +37,7 @@ use Rattle.walks.proofs.Checking.{tested}
 use Rattle.walks.proofs.Seeing.{edges-inside}
 use Rattle.subgraph.specs.declared.places.Subgraphs.{Subgraphs}
 use Rattle.subgraph.specs.Places.{Placed}
-use Rattle.subgraph.specs.Subgraphs.{Summary, unlessRefused, inOrder}
+use Rattle.subgraph.specs.Subgraphs.{Summary, inOrder}
 use Rattle.subgraph.specs.WholePartitions.{Whole, withSingletons, wholePartition, toldWhole, LawfulWhole}
 use Rattle.analysis.specs.Runs.{leftBy}
 use Rattle.reconnect.specs.Reach.{isEnabled, TellsReach}
@@ -63,13 +63,13 @@ placed-alike R t u same law =
     }
 
 -- a partition comes after a test that was passed
-passed-first : (es : List Edge) (n : ℕ) (a : Result (Unit {0}) Refusal) (s : Summary) (w : Whole) → Ok w ≡ withSingletons es n (unlessRefused a s) → a ≡ Ok tt
+passed-first : (es : List Edge) (n : ℕ) (a : Result (Unit {0}) Refusal) (s : Summary) (w : Whole) → Ok w ≡ withSingletons es n (unlessRefused a (Ok s)) → a ≡ Ok tt
 passed-first es n (Ok x) s w q = refl
 passed-first es n (Err x) s w q = never cc
 
 -- when sealing is refused: as the test for closed walks is, on a graph that is still open
 module _ (m : Model) (room : ℕ) (law : Tested m room (acyclicAnswer m room)) where
-  open-graph : (a : Result (Unit {0}) Refusal) (s : Summary) → acyclicAnswer m room ≡ a → m .stage ≡ Open → RefusedWell m room (sealedBy (withSingletons (m .edges) (length (m .nodes)) (unlessRefused a s)) m .answer)
+  open-graph : (a : Result (Unit {0}) Refusal) (s : Summary) → acyclicAnswer m room ≡ a → m .stage ≡ Open → RefusedWell m room (sealedBy (withSingletons (m .edges) (length (m .nodes)) (unlessRefused a (Ok s))) m .answer)
   open-graph (Ok x) s is at =
       record {
         closed = λ n. (λ q. never cc, λ h. let z = law .closed n .1 (h .1, h .2) in never cc);

@@ -24,7 +24,7 @@ use Rattle.walks.proofs.Exploring.{stacked-only, walk-cases}
 use Rattle.walks.proofs.Closure.{visited-set, set-visited, Ended, ended, only, kept, Past, walk-past}
 use Rattle.walks.proofs.Degrees.{total, total-edges, pending-total}
 use Rattle.subgraph.specs.Sorting.{allIn, isReady, ready}
-use Rattle.subgraph.specs.Orders.{Ordered, isEmpty, starts, foundFrom, sortedFrom, Shut, Within}
+use Rattle.subgraph.specs.Orders.{Ordered, isEmpty, starts, foundFrom, sortedFrom, Shut, NoMore}
 use Rattle.subgraph.proofs.Sorting.{allIn-each}
 use Rattle.subgraph.proofs.Topological.{State, runs, all-done}
 
@@ -216,7 +216,7 @@ module _ (es : List Edge) (N : ℕ) (inside : (x y : ℕ) → Joins es x y → (
         (cases-bool (getD marks x false))
 
     -- ---- the order
-    module _ (w : List Bool) (long-w : N ≤ length w) (within : Within N w v) where
+    module _ (w : List Bool) (long-w : N ≤ length w) (within : NoMore N w v) where
       unappended : (x : ℕ) → Connected (Joins es) root x → getD w x false ≡ true → ⊥
       unappended x c h = both-ways _ (unfound es v shut root new c) (within x (connected-small x c) h)
 
@@ -253,7 +253,7 @@ module _ (es : List Edge) (N : ℕ) (inside : (x y : ℕ) → Joins es x y → (
           }
 
       -- what is appended was appended, or is found now
-      pub within-again : Within N (sortedFrom es N v w root .visited) marks
+      pub within-again : NoMore N (sortedFrom es N v w root .visited) marks
       within-again x lt h =
           ⊎-elim
           (λ was. tied .kept x (within x lt was))

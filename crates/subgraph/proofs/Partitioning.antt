@@ -17,7 +17,7 @@ use Rattle.graph.specs.declared.raw.RawInstGraph.{RawInstGraph}
 use Rattle.graph.specs.Model.{model}
 use Rattle.walks.proofs.Seeing.{edges-inside, few-nodes}
 use Rattle.subgraph.specs.declared.places.Subgraphs.{Subgraphs}
-use Rattle.subgraph.specs.Orders.{Ordered, foundFrom, sortedFrom, Shut, Within}
+use Rattle.subgraph.specs.Orders.{Ordered, foundFrom, sortedFrom, Shut, NoMore}
 use Rattle.subgraph.specs.Partitions.{Partition, joined, begins, turn, parted, partition}
 use Rattle.subgraph.specs.Places.{orderOf, inTurn, placed, Filled, Placed}
 use Rattle.subgraph.specs.Subgraphs.{inOrder, Lawful}
@@ -49,7 +49,7 @@ pub record Root (g : RawInstGraph) (n : ℕ) (f a : List Bool) (s : Subgraphs) :
   pub appended-room : length (model g .nodes) ≤ length a
   pub shut : Shut (model g .edges) f
   pub new : getD f n false ≡ false
-  pub within : Within (length (model g .nodes)) a f
+  pub within : NoMore (length (model g .nodes)) a f
   pub below : Below 1024 (sortedFrom (model g .edges) (length (model g .nodes)) f a n .order)
   pub room : length (sortedFrom (model g .edges) (length (model g .nodes)) f a n .order) + length (orderOf s) ≤ 1024
   pub count : s .count < 1024

@@ -18,7 +18,7 @@ use Rattle.walks.specs.Exploring.{targets, sources}
 use Rattle.walks.proofs.Seeing.{joins-among, among-joins, joins-sources, sources-joins}
 use Rattle.walks.proofs.Closure.{Past}
 use Rattle.subgraph.specs.Sorting.{isReady}
-use Rattle.subgraph.specs.Orders.{isEmpty, sortedFrom, Shut, Within}
+use Rattle.subgraph.specs.Orders.{isEmpty, sortedFrom, Shut, NoMore}
 use Rattle.subgraph.specs.Partitions.{root, Partition, joined, begins, turn, parted}
 use Rattle.subgraph.specs.Places.{inTurn}
 use Rattle.subgraph.proofs.Sorting.{allIn-each}
@@ -77,7 +77,7 @@ module _ (es : List Edge) (N : ℕ) (inside : (x y : ℕ) → Joins es x y → (
     pub long : N ≤ length (p .found)
     pub room : N ≤ length (p .appended)
     pub shut : Shut es (p .found)
-    pub within : Within N (p .appended) (p .found)
+    pub within : NoMore N (p .appended) (p .found)
 
   -- the orders beside them
   pub record Orders (n : ℕ) (p : Partition) : Type 0 where

@@ -14,14 +14,14 @@ use Rattle.records.specs.declared.refusal.Refusal.the-variants.{TableTooShort}
 use Rattle.tables.specs.Filled.{filled, Blank}
 use Rattle.tables.proofs.Filling.{length-filled, filled-below}
 use Rattle.graph.specs.declared.raw.RawInstGraph.{RawInstGraph}
-use Rattle.graph.specs.Model.{model}
+use Rattle.graph.specs.Model.{model, unlessRefused}
 use Rattle.walks.specs.Cycles.{acyclicAnswer, leftBlank}
 use Rattle.walks.proofs.Seeing.{edges-inside, few-nodes}
 use Rattle.walks.proofs.Closed.{restored}
 use Rattle.subgraph.specs.declared.places.Subgraphs.{Subgraphs}
 use Rattle.subgraph.specs.Partitions.{Partition, partition}
 use Rattle.subgraph.specs.Places.{Filled, places, inTurn}
-use Rattle.subgraph.specs.Subgraphs.{ordersOf, summary, unlessRefused, partitioned, told}
+use Rattle.subgraph.specs.Subgraphs.{ordersOf, summary, partitioned, told}
 use Rattle.subgraph.proofs.Partitions.{blank-tables, parted-past}
 use Rattle.subgraph.proofs.Told.{summed}
 use Rattle.subgraph.proofs.Twins.{same-orders}
@@ -66,7 +66,7 @@ module _ (g : RawInstGraph) (work : List Bool) (passed : acyclicAnswer (model g)
     pub answer : told N (Ok s) ≡ partitioned (model g) (length work)
     answer =
         ap Ok (summed N (ordersOf (model g .edges) N) s (few-nodes g) (fl .count ∙ ap length same) (fl .order ∙ ap inTurn same) (fl .places-are ∙ ap (λ os. places os (replicate 1024 None)) same))
-        ∙ ap (λ r. unlessRefused r (summary N (ordersOf (model g .edges) N))) (sym passed)
+        ∙ ap (λ r. unlessRefused r (Ok (summary N (ordersOf (model g .edges) N)))) (sym passed)
 
     pub table : (after : List Bool) → after ≡ filled N false f → after ≡ leftBlank N work
     table after end =

@@ -39,5 +39,5 @@ abbrev pub Shut : List Edge → List Bool → Type 0
 Shut es t = (x y : ℕ) → Joins es x y → getD t x false ≡ getD t y false
 
 -- of the nodes below n, one table has no more than another
-abbrev pub Within : ℕ → List Bool → List Bool → Type 0
-Within n w v = (x : ℕ) → x < n → getD w x false ≡ true → getD v x false ≡ true
+abbrev pub NoMore : ℕ → List Bool → List Bool → Type 0
+NoMore n w v = (x : ℕ) → x < n → getD w x false ≡ true → getD v x false ≡ true

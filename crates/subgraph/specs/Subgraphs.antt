@@ -11,7 +11,7 @@ use Rattle.records.specs.declared.edge.Edge.{Edge}
 use Rattle.records.specs.declared.node.Place.{Place}
 use Rattle.records.specs.declared.refusal.Refusal.{Refusal}
 use Rattle.records.specs.Walks.{Acyclic, Among, Touched}
-use Rattle.graph.specs.Model.{Model}
+use Rattle.graph.specs.Model.{Model, unlessRefused}
 use Rattle.walks.specs.Cycles.{acyclicAnswer}
 use Rattle.subgraph.specs.declared.places.Subgraphs.{Subgraphs}
 use Rattle.subgraph.specs.Orders.{Ordered}
@@ -31,14 +31,9 @@ ordersOf es N = partition es N (replicate N false) (replicate N false) .orders
 abbrev pub summary : ℕ → List (List ℕ) → Summary
 summary N os = record { count = length os; order = reverse (inTurn os); places = places os (replicate N None) }
 
--- an answer, unless a test before it refused
-abbrev pub unlessRefused : Result (Unit {0}) Refusal → Summary → Result Summary Refusal
-unlessRefused (Ok _) s = Ok s
-unlessRefused (Err e) s = Err e
-
 -- what is answered of a graph, with a work table of that room
 abbrev pub partitioned : Model → ℕ → Result Summary Refusal
-partitioned m room = unlessRefused (acyclicAnswer m room) (summary (length (m .nodes)) (ordersOf (m .edges) (length (m .nodes))))
+partitioned m room = unlessRefused (acyclicAnswer m room) (Ok (summary (length (m .nodes)) (ordersOf (m .edges) (length (m .nodes)))))
 
 -- the entries of the order that are in use, the first node first
 abbrev pub inOrder : Subgraphs → List ℕ

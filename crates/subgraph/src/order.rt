@@ -5,8 +5,8 @@ ghost use Prim.Native.Nat.{_<_, _≤_};
 ghost use lib.ListN.{length, getD};
 ghost use Rattle.tables.specs.Stacks.{held};
 ghost use Rattle.graph.specs.Model.{model};
-ghost use Rattle.walks.specs.Exploring.{sources};
-ghost use Rattle.subgraph.specs.Orders.{isEmpty, starts, foundFrom, sortedFrom, Shut, Within};
+ghost use Rattle.records.specs.Edges.{neighbours, history};
+ghost use Rattle.subgraph.specs.Orders.{isEmpty, starts, foundFrom, sortedFrom, Shut, NoMore};
 use crate::sort::sort;
 use graph::raw::RawInstGraph;
 use records::edge::Direction;
@@ -14,15 +14,12 @@ use tables::stack::Stack;
 use walks::explore::Ways;
 use walks::explore::explore;
 
-// Whether no edge leads to a node.
-pub(crate) fn no_sources(graph: &RawInstGraph, node: u16) -> bool
-    ensures { λ r. ⌜ r ≡ isEmpty (sources (model (now (graph .entry)) .edges) node) ⌝ }
+// Whether a node has no edges of one direction.
+pub(crate) fn no_neighbors(graph: &RawInstGraph, node: u16, direction: Direction) -> bool
+    ensures { λ r. ⌜ r ≡ isEmpty (neighbours direction (history (model (now (graph .entry)) .edges)) node) ⌝ }
 {
-    let mut list = graph.neighbors_directed(node as usize, Direction::Incoming);
-    match list.next(graph) {
-        None => true,
-        Some(_) => false,
-    }
+    let mut list = graph.neighbors_directed(node as usize, direction);
+    list.next(graph).is_none()
 }
 
 // Of the nodes found, those to which no edge leads.
@@ -32,7 +29,7 @@ fn start_nodes(graph: &RawInstGraph, found: &Stack) -> Stack
     let mut chosen = Stack::new();
     for i in 0..found.height {
         let node = found.items[i];
-        if no_sources(graph, node) {
+        if no_neighbors(graph, node, Direction::Incoming) {
             chosen.push(node);
         }
     }
@@ -51,7 +48,7 @@ pub(crate) fn order_from(
     requires appended_room { ⌜ length (model (now graph) .nodes) ≤ length (now appended) ⌝ }
     requires shut { ⌜ Shut (model (now graph) .edges) (now visited) ⌝ }
     requires unvisited { ⌜ getD (now visited) root false ≡ false ⌝ }
-    requires within { ⌜ Within (length (model (now graph) .nodes)) (now appended) (now visited) ⌝ }
+    requires within { ⌜ NoMore (length (model (now graph) .nodes)) (now appended) (now visited) ⌝ }
     ensures is { λ r. ⌜ held r ≡ sortedFrom (model (now (graph .entry)) .edges) (length (model (now (graph .entry)) .nodes)) (now (visited .entry)) (now (appended .entry)) root .order ⌝ }
     ensures marks { λ _. ⌜ now (visited .exit) ≡ foundFrom (model (now (graph .entry)) .edges) (length (model (now (graph .entry)) .nodes)) (now (visited .entry)) root .visited ⌝ }
     ensures appended { λ _. ⌜ now (appended .exit) ≡ sortedFrom (model (now (graph .entry)) .edges) (length (model (now (graph .entry)) .nodes)) (now (visited .entry)) (now (appended .entry)) root .visited ⌝ }

@@ -11,7 +11,7 @@ ghost use Rattle.subgraph.specs.Partitions.{begins, partition};
 ghost use Rattle.subgraph.specs.Places.{Filled};
 ghost use Rattle.subgraph.specs.Subgraphs.{partitioned, told, Lawful};
 ghost use Rattle.subgraph.specs.WholePartitions.{wholePartition, toldWhole, LawfulWhole};
-use crate::order::no_sources;
+use crate::order::no_neighbors;
 use crate::order::order_from;
 use crate::places::Subgraphs;
 use graph::raw::RawInstGraph;
@@ -26,14 +26,9 @@ fn begins_subgraph(graph: &RawInstGraph, node: u16, found: &[bool]) -> bool
     requires table { ⌜ length (model (now graph) .nodes) ≤ length (now found) ⌝ }
     ensures { λ r. ⌜ r ≡ begins (model (now (graph .entry)) .edges) (now (found .entry)) node ⌝ }
 {
-    if !no_sources(graph, node) {
-        return false;
-    }
-    let mut list = graph.neighbors_directed(node as usize, Direction::Outgoing);
-    match list.next(graph) {
-        None => false,
-        Some(_) => !found[node as usize],
-    }
+    no_neighbors(graph, node, Direction::Incoming)
+        && !no_neighbors(graph, node, Direction::Outgoing)
+        && !found[node as usize]
 }
 
 // The subgraphs of the roots, ascending.

@@ -6,20 +6,16 @@ ghost use lib.ListN.{length, take, drop};
 ghost use Rattle.graph.specs.Model.{model};
 ghost use Rattle.subgraph.specs.Subgraphs.{inOrder};
 ghost use Rattle.subgraph.specs.Wholes.{alone, singletons};
+use crate::order::no_neighbors;
 use crate::places::Subgraphs;
 use graph::raw::RawInstGraph;
 use records::edge::Direction;
 
 // Whether no edge leads from a node or to it.
-fn is_singleton(graph: &RawInstGraph, node: usize) -> bool
+fn is_singleton(graph: &RawInstGraph, node: u16) -> bool
     ensures { λ r. ⌜ r ≡ alone (model (now (graph .entry)) .edges) node ⌝ }
 {
-    let mut out = graph.neighbors_directed(node, Direction::Outgoing);
-    if out.next(graph).is_some() {
-        return false;
-    }
-    let mut into = graph.neighbors_directed(node, Direction::Incoming);
-    into.next(graph).is_none()
+    no_neighbors(graph, node, Direction::Outgoing) && no_neighbors(graph, node, Direction::Incoming)
 }
 
 impl Subgraphs {
@@ -45,7 +41,7 @@ impl Subgraphs {
     {
         self.in_subgraphs = self.ordered;
         for node in 0..graph.nodes().len() {
-            if is_singleton(graph, node) {
+            if is_singleton(graph, node as u16) {
                 self.put_singleton(node as u16);
             }
         }

@@ -15,16 +15,16 @@ use Rattle.records.specs.declared.refusal.Refusal.{Refusal}
 use Rattle.records.specs.declared.refusal.Refusal.the-variants.{TableTooShort, ClosedWalk}
 use Rattle.records.specs.Walks.{Joins, Leads, Lowest, Acyclic}
 use Rattle.tables.specs.Filled.{filled}
-use Rattle.graph.specs.Model.{Model}
-use Rattle.walks.specs.Cycles.{comesBack, andThen, checked, acyclicAnswer, leftBlank, Tested}
+use Rattle.graph.specs.Model.{Model, unlessRefused}
+use Rattle.walks.specs.Cycles.{comesBack, checked, acyclicAnswer, leftBlank, Tested}
 use Rattle.walks.proofs.Closed.{back-decides, leads-inside}
 
 -- one node more
 pub checked-on : (es : List Edge) (N n : ℕ) → checked es N n ≡ Ok tt → comesBack es N n ≡ false → checked es N (suc n) ≡ Ok tt
-checked-on es N n e f = ap (λ r. andThen r (cond (comesBack es N n) (Err (ClosedWalk n)) (Ok tt))) e ∙ cond-false _ _ _ f
+checked-on es N n e f = ap (λ r. unlessRefused r (cond (comesBack es N n) (Err (ClosedWalk n)) (Ok tt))) e ∙ cond-false _ _ _ f
 
 pub checked-stop : (es : List Edge) (N n : ℕ) → checked es N n ≡ Ok tt → comesBack es N n ≡ true → checked es N (suc n) ≡ Err (ClosedWalk n)
-checked-stop es N n e t = ap (λ r. andThen r (cond (comesBack es N n) (Err (ClosedWalk n)) (Ok tt))) e ∙ cond-true _ _ _ t
+checked-stop es N n e t = ap (λ r. unlessRefused r (cond (comesBack es N n) (Err (ClosedWalk n)) (Ok tt))) e ∙ cond-true _ _ _ t
 
 -- a refusal stays
 pub checked-stays : (es : List Edge) (N n m : ℕ) (e : Refusal) → n ≤ m → checked es N n ≡ Err e → checked es N m ≡ Err e
@@ -32,7 +32,7 @@ checked-stays es N n zero e h is = let same : n ≡ 0 = omega arith in subst (λ
 checked-stays es N n (suc m) e h is =
     ⊎-elim
     (λ (same : n ≡ suc m). subst (λ k. checked es N k ≡ Err e) same is)
-    (λ (ne : n ≡ suc m → ⊥). ap (λ r. andThen r (cond (comesBack es N m) (Err (ClosedWalk m)) (Ok tt))) (checked-stays es N n m e (omega arith) is))
+    (λ (ne : n ≡ suc m → ⊥). ap (λ r. unlessRefused r (cond (comesBack es N m) (Err (ClosedWalk m)) (Ok tt))) (checked-stays es N n m e (omega arith) is))
     (cases-eq n (suc m))
 
 -- ---- the law

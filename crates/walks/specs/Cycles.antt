@@ -13,7 +13,7 @@ use Rattle.records.specs.declared.refusal.Refusal.{Refusal}
 use Rattle.records.specs.declared.refusal.Refusal.the-variants.{TableTooShort, ClosedWalk}
 use Rattle.records.specs.Walks.{Acyclic, Lowest, Joins}
 use Rattle.tables.specs.Filled.{filled}
-use Rattle.graph.specs.Model.{Model}
+use Rattle.graph.specs.Model.{Model, unlessRefused}
 use Rattle.walks.specs.Exploring.{targets, piled, explored}
 
 -- among N nodes, what the stack walk over outgoing edges visits when it begins with the targets of n
@@ -24,15 +24,10 @@ reachedFrom es N n = explored (targets es) N (piled (targets es n) (replicate N 
 abbrev pub comesBack : List Edge → ℕ → ℕ → Bool
 comesBack es N n = getD (reachedFrom es N n) n false
 
--- a test, unless one before it refused
-abbrev pub andThen : Result (Unit {0}) Refusal → Result (Unit {0}) Refusal → Result (Unit {0}) Refusal
-andThen (Ok _) next = next
-andThen (Err e) next = Err e
-
 -- the nodes below n are tested, the lowest first
 abbrev pub checked : List Edge → ℕ → ℕ → Result (Unit {0}) Refusal
 checked es N zero = Ok tt
-checked es N (suc n) = andThen (checked es N n) (cond (comesBack es N n) (Err (ClosedWalk n)) (Ok tt))
+checked es N (suc n) = unlessRefused (checked es N n) (cond (comesBack es N n) (Err (ClosedWalk n)) (Ok tt))
 
 -- all nodes are tested, in a work table of that room
 abbrev pub acyclicAnswer : Model → ℕ → Result (Unit {0}) Refusal

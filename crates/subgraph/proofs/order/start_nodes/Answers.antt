@@ -14,7 +14,7 @@ use Rattle.walks.specs.Exploring.{sources}
 use Rattle.subgraph.specs.Orders.{starts, isEmpty}
 use Rattle.subgraph.proofs.Components.{length-starts}
 use Rattle.subgraph.proofs.order.start_nodes.Needs as need
-use Rattle.subgraph.proofs.order.start_nodes.Needs.{then-no-sources, else-no-sources}
+use Rattle.subgraph.proofs.order.start_nodes.Needs.{then-no-neighbors, else-no-neighbors}
 
 pub push-requires : need.push-requires
 push-requires c κs =
@@ -32,11 +32,11 @@ loop-i-again c =
     let i = c .loop-i .i in
     let n = getD items i 0 in
     let more : starts es (latest 0 (i + 1) items) ≡ starts es (n ∷ latest 0 i items) = ap (λ k. starts es (latest 0 k items)) (add-one i) in
-    elim (c .if-no-sources .came) [
-      | then-no-sources w ↦
-          let test : isEmpty (sources es n) ≡ true = sym (w .if-no-sources .ensures tt) in
+    elim (c .if-no-neighbors .came) [
+      | then-no-neighbors w ↦
+          let test : isEmpty (sources es n) ≡ true = sym (w .if-no-neighbors .ensures tt) in
           ap held (w .chosen-is) ∙ w .push .ensures ∙ ap (λ l. n ∷ l) (c .loop-i .inv) ∙ ap (λ b. addIf b n (starts es (latest 0 i items))) (sym test) ∙ sym more
-      | else-no-sources w ↦
-          let test : isEmpty (sources es n) ≡ false = sym (w .if-no-sources .ensures tt) in
+      | else-no-neighbors w ↦
+          let test : isEmpty (sources es n) ≡ false = sym (w .if-no-neighbors .ensures tt) in
           ap held (w .chosen-is) ∙ c .loop-i .inv ∙ ap (λ b. addIf b n (starts es (latest 0 i items))) (sym test) ∙ sym more
     ]
