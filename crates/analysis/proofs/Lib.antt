@@ -1,3 +1,4 @@
+pub mod Unique
 pub mod Ranks
 pub mod Stepping
 pub mod Sealed

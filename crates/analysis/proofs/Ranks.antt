@@ -5,14 +5,13 @@ use Rattle.records.specs.declared.edge.Edge.{Edge}
 use Rattle.records.specs.declared.edge.Direction.{Direction}
 use Rattle.records.specs.declared.edge.Direction.TheVariants.{Outgoing, Incoming}
 use Rattle.records.specs.Edges.{no_edge, history, near, far, add_if, neighbours}
-use Rattle.records.specs.Walks.{Among, Ends}
+use Rattle.records.specs.Walks.{Among}
 use Rattle.graph.specs.Model.{Model}
-use Rattle.graph.specs.Order.{stands_at, Within, Complete, Once, Topological}
-use Rattle.records.proofs.Listed.{among_reversed, among_get_or}
-use Rattle.graph.proofs.Standings.{stands_read}
+use Rattle.graph.specs.Order.{stands_at, Ends, Within, Complete, Once, Topological}
+use Rattle.graph.proofs.Standings.{among_reversed, among_get_or, stands_read}
 use Rattle.walk_neighbors.specs.PastDisabled.{Noted, noted, push, push_all, drained, gone_through, sees, is_off, may_reach, enabled_neighbours}
 use Rattle.analysis.specs.Near.{looking_along, near_of}
-use Rattle.records.proofs.Unique.{Each, each_map, Lower}
+use Rattle.analysis.proofs.Unique.{Each, each_map, Lower}
 
 each_among : {X : Type 0} (P : X → Type 0) (xs : List X) → ((x : X) → Among x xs → P x) → Each P xs
 each_among P [] f = tt

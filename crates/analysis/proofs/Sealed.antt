@@ -4,8 +4,7 @@ use Rattle.std.proofs.lemmas.List.{length-take-le}
 use Rattle.records.specs.declared.stage.Stage.TheVariants.{Sealed}
 use Rattle.graph.specs.declared.raw.RawInstGraph.{RawInstGraph}
 use Rattle.graph.specs.Model.{model}
-use Rattle.records.specs.Walks.{Ends}
-use Rattle.graph.specs.Order.{Within, Complete}
+use Rattle.graph.specs.Order.{Ends, Within, Complete}
 use Rattle.analysis.proofs.Ranks.{Runnable}
 
 pub runnable : (g : RawInstGraph) → (model g).stage ≡ Sealed → Runnable (model g)

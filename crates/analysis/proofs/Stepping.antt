@@ -8,9 +8,9 @@ use Rattle.graph.specs.Model.{Model}
 use Rattle.graph.specs.Order.{stands_at}
 use Rattle.graph.proofs.Standings.{stands_read}
 use Rattle.analysis.specs.Near.{near_of}
-use Rattle.records.specs.Rule.{Meaning, ruled, Solves, worth, value_table}
+use Rattle.analysis.specs.Rule.{Meaning, ruled, Solves, worth, value_table}
 use Rattle.analysis.specs.Runs.{walk_at}
-use Rattle.records.proofs.Unique.{each_map, ruled_worth, value_solves}
+use Rattle.analysis.proofs.Unique.{each_map, ruled_worth, value_solves}
 use Rattle.analysis.proofs.Ranks.{Runnable, rank, near_lower, rank_low}
 
 module _ (m : Model) (fine : Runnable m) where

@@ -6,7 +6,7 @@ use Rattle.records.specs.declared.stage.Call.TheVariants.{TopoAnalysis}
 use Rattle.records.specs.Stages.{admission}
 use Rattle.graph.specs.Model.{Model, unless_refused}
 use Rattle.analysis.specs.Near.{near_of}
-use Rattle.records.specs.Rule.{Meaning, value_table}
+use Rattle.analysis.specs.Rule.{Meaning, value_table}
 
 -- the node that a run comes to at step i: along the order, or against it
 abbrev pub walk_at : Bool → List ℕ → ℕ → ℕ

@@ -1,6 +1,6 @@
 // What an analysis is.
 ghost use Rattle.std.specs.Prelude.{◌≡◌, Bool};
-ghost use Rattle.records.specs.Rule.{Meaning};
+ghost use Rattle.analysis.specs.Rule.{Meaning};
 
 use records::node::Node;
 

@@ -3,7 +3,7 @@ ghost use Rattle.std.specs.Prelude.{◌≡◌, ◌<◌, ◌≤◌, ◌++◌, len
 ghost use Rattle.records.specs.declared.stage.Stage.TheVariants as stage;
 ghost use Rattle.graph.specs.Model.{model};
 ghost use Rattle.analysis.specs.Near.{looking_along, near_of};
-ghost use Rattle.records.specs.Rule.{closed, ruled, Solves, value_table};
+ghost use Rattle.analysis.specs.Rule.{closed, ruled, Solves, value_table};
 ghost use Rattle.analysis.specs.Runs.{walk_at, room_for, run_answer, run_table};
 
 use crate::analysis::TopoAnalysis;
@@ -25,8 +25,8 @@ fn join_all<A: TopoAnalysis, C: Cursor>(
 ) -> A::Value
     requires within { at < length (model graph.now).nodes }
     requires room { length (model graph.now).nodes ≤ length table.now }
-    requires fits { fit (model graph.now) cursor }
-    ensures { result ≡ closed (meaning analysis.now) (model graph.now).nodes (λ k. slice_index_or table.now k (meaning analysis.now).blank) at (coming (model graph.now) cursor) }
+    requires fits { C.fit (model graph.now) cursor }
+    ensures { result ≡ closed (A.meaning analysis.now) (model graph.now).nodes (λ k. slice_index_or table.now k (A.meaning analysis.now).blank) at (C.coming (model graph.now) cursor) }
 {
     let mut rest = cursor;
     let nodes = graph.nodes();
@@ -59,7 +59,7 @@ fn collect<A: TopoAnalysis>(
 ) -> A::Value
     requires within { at < length (model graph.now).nodes }
     requires room { length (model graph.now).nodes ≤ length table.now }
-    ensures { result ≡ ruled (meaning analysis.now) (model graph.now).nodes (near_of forward skips (model graph.now)) (λ k. slice_index_or table.now k (meaning analysis.now).blank) at }
+    ensures { result ≡ ruled (A.meaning analysis.now) (model graph.now).nodes (near_of A.forward A.skips (model graph.now)) (λ k. slice_index_or table.now k (A.meaning analysis.now).blank) at }
 {
     let direction = looking_along(A::forward());
     if !A::skips_disabled() {
@@ -116,8 +116,8 @@ pub fn topo_analysis<A: TopoAnalysis>(
     table: &mut [A::Value],
 ) -> Result<(), Refusal>
     ensures answer { result ≡ run_answer (length table.old) (model graph.now) }
-    ensures values { table.new ≡ run_table (meaning analysis.now) forward skips (model graph.now) table.old }
-    ensures only { result ≡ Ok tt → Solves (meaning analysis.now) (model graph.now).nodes (near_of forward skips (model graph.now)) (take (length (model graph.now).nodes) table.new) }
+    ensures values { table.new ≡ run_table (A.meaning analysis.now) A.forward A.skips (model graph.now) table.old }
+    ensures only { result ≡ Ok tt → Solves (A.meaning analysis.now) (model graph.now).nodes (near_of A.forward A.skips (model graph.now)) (take (length (model graph.now).nodes) table.new) }
 {
     admit(graph.stage(), Call::TopoAnalysis)?;
     room_for(graph, table.len())?;
@@ -131,8 +131,8 @@ pub fn topo_analysis<A: TopoAnalysis>(
 fn run_steps<A: TopoAnalysis>(graph: &RawInstGraph, analysis: &A, table: &mut [A::Value])
     requires sealed { (model graph.now).stage ≡ stage.Sealed }
     requires room { length (model graph.now).nodes ≤ length table.old }
-    ensures values { table.new ≡ value_table (meaning analysis.now) (model graph.now).nodes (near_of forward skips (model graph.now)) ++ drop (length (model graph.now).nodes) table.old }
-    ensures only { Solves (meaning analysis.now) (model graph.now).nodes (near_of forward skips (model graph.now)) (take (length (model graph.now).nodes) table.new) }
+    ensures values { table.new ≡ value_table (A.meaning analysis.now) (model graph.now).nodes (near_of A.forward A.skips (model graph.now)) ++ drop (length (model graph.now).nodes) table.old }
+    ensures only { Solves (A.meaning analysis.now) (model graph.now).nodes (near_of A.forward A.skips (model graph.now)) (take (length (model graph.now).nodes) table.new) }
 {
     for i in 0..graph.nodes().len() {
         let at = walked(graph, A::forward(), i);

@@ -1,5 +1,5 @@
 -- How the ends of the edges keep within the nodes.
-use Rattle.std.proofs.Common.{◌≡◌, ℕ, ◌+◌, ◌<◌, ◌≤◌, ltb, List, [], ◌∷◌, ◌++◌, length, get_or, Ok, Err, Result, sym, ap, ◌∙◌, subst, ⊎_elim, arith}
+use Rattle.std.proofs.Common.{◌≡◌, ℕ, ◌+◌, ◌<◌, ◌≤◌, ltb, List, [], ◌∷◌, ◌++◌, length, Ok, Err, sym, subst, ⊎_elim, arith}
 use Rattle.std.proofs.lemmas.List.{get_or_append_left, get_or_push, length_push}
 use Rattle.std.proofs.lemmas.Bool.{cases_eq, cases_lt, cond-false, le-ltb}
 use Rattle.records.specs.declared.edge.Edge.{Edge}
@@ -7,7 +7,7 @@ use Rattle.records.specs.declared.refusal.Refusal.TheVariants.{UnknownNode}
 use Rattle.records.specs.Edges.{no_edge}
 use Rattle.graph.specs.Adding.{known}
 use Rattle.graph.specs.Model.{Model}
-use Rattle.records.specs.Walks.{Ends}
+use Rattle.graph.specs.Order.{Ends}
 
 pub ends_none : (n : ℕ) → Ends n []
 ends_none n e h = absurd (omega arith)

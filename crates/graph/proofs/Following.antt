@@ -1,5 +1,5 @@
 -- A link to the newest edge at a node leads through all that the node sees.
-use Rattle.std.proofs.Common.{◌≡◌, ℕ, zero, suc, ◌<◌, ◌≤◌, Bool, true, false, cond, eqb, ltb, List, [], ◌∷◌, length, get_or, take, Some, None, Option, sym, refl, ap, ◌∙◌, subst, arith}
+use Rattle.std.proofs.Common.{◌≡◌, ℕ, zero, suc, ◌<◌, ◌≤◌, true, false, eqb, ltb, List, [], ◌∷◌, length, get_or, take, Some, None, Option, sym, refl, ap, ◌∙◌, subst, arith}
 use Rattle.std.proofs.lemmas.List.{get_or-take, take-take, length-take-le}
 use Rattle.std.proofs.lemmas.Bool.{cond-true, lt-ltb, ne_eqb}
 use Rattle.records.specs.declared.edge.Edge.{Edge}
@@ -9,7 +9,7 @@ use Rattle.records.specs.Edges.{no_edge, history, near, far, add_if, neighbours}
 use Rattle.tables.proofs.LatestLaws.{latest_reversed}
 use Rattle.graph.specs.Cursors.{seen}
 use Rattle.graph.specs.Links.{recent, newest, upto, Follows}
-use Rattle.records.specs.Walks.{Ends}
+use Rattle.graph.specs.Order.{Ends}
 use Rattle.graph.proofs.Chains.{arrive, along, follows_more}
 
 -- in the first k rows of a table

@@ -6,7 +6,7 @@ use Rattle.records.specs.declared.node.Visibility.TheVariants as visibility
 use Rattle.records.specs.Nodes.{is_shown}
 use Rattle.graph.specs.Adding.{node_at}
 use Rattle.graph.specs.Hiding.{after_shown, keep_first}
-use Rattle.graph.specs.HidingLaws.{named, KeptFirst}
+use Rattle.graph.specs.HidingLaws.{KeptFirst}
 use Rattle.graph.specs.Model.{Model}
 use Rattle.graph.proofs.Turning.{turned_all}
 

@@ -9,4 +9,5 @@ pub mod Following
 pub mod Turning
 pub mod Keeping
 pub mod Standings
+pub mod Seen
 pub mod Placing

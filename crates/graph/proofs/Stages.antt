@@ -1,5 +1,5 @@
 -- What a call that was admitted says of the stage.
-use Rattle.std.proofs.Common.{◌≡◌, ℕ, false, Ok, Err, Result, refl, arith}
+use Rattle.std.proofs.Common.{◌≡◌, ℕ, false, Ok, refl, arith}
 use Rattle.records.specs.declared.node.NodeState.TheVariants.{Disabled}
 use Rattle.records.specs.declared.node.Visibility.{Visibility}
 use Rattle.records.specs.declared.node.Visibility.TheVariants as visibility

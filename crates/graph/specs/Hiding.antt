@@ -1,5 +1,5 @@
 -- Disabling, showing and hiding nodes.
-use Rattle.std.specs.Prelude.{◌≡◌, ℕ, zero, suc, Bool, true, false, cond, not, ◌||◌, ltb, List, [], ◌∷◌, length, Ok, Err, Result, nat_lt, slice_set}
+use Rattle.std.specs.Prelude.{◌≡◌, ℕ, zero, suc, Bool, false, cond, not, ◌||◌, ltb, List, [], ◌∷◌, length, Ok, Err, Result, nat_lt, slice_set}
 use Rattle.std.specs.List.{prefix_len, range_with_len}
 use Rattle.records.specs.declared.node.NodeKind.{NodeKind}
 use Rattle.records.specs.declared.node.NodeState.{NodeState}

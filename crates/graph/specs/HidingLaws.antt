@@ -1,5 +1,5 @@
 -- What showing and hiding comes to, node by node.
-use Rattle.std.specs.Prelude.{◌≡◌, ℕ, suc, ◌<◌, ◌≤◌, Bool, false, cond, not, ◌&&◌, ◌||◌, ◌↔◌, List, [], ◌∷◌, ◌++◌, length, count_by, ◌==◌}
+use Rattle.std.specs.Prelude.{◌≡◌, ℕ, ◌<◌, ◌≤◌, Bool, false, cond, not, ◌&&◌, ◌||◌, ◌↔◌, List, [], ◌∷◌, ◌++◌, length, count_by, ◌==◌}
 use Rattle.records.specs.declared.node.Visibility.{Visibility}
 use Rattle.records.specs.declared.node.Visibility.TheVariants as visibility
 use Rattle.records.specs.Nodes.{in_state, is_disabled, is_shown, asked}

@@ -1,7 +1,11 @@
--- Orders in which every edge's source stands before its target.
+-- Edges between nodes, and orders in which every edge's source stands before its target.
 use Rattle.std.specs.Prelude.{◌≡◌, ℕ, suc, ◌<◌, cond, List, [], ◌∷◌, length, ◌==◌, slice_index, slice_index_or}
 use Rattle.records.specs.declared.edge.Edge.{Edge}
 use Rattle.records.specs.Edges.{no_edge}
+
+-- both ends of each edge are among the first n nodes
+abbrev pub Ends : ℕ → List Edge → Type 0
+Ends n es = (e : ℕ) → e < length es → ((slice_index_or es e no_edge).source < n) × ((slice_index_or es e no_edge).target < n)
 
 -- where n first stands in a list; the list's length where it does not stand there
 abbrev pub stands_at : List ℕ → ℕ → ℕ

@@ -3,8 +3,7 @@ ghost use Rattle.std.specs.Prelude.{◌≡◌, ◌≤◌, length, take};
 ghost use Rattle.records.specs.declared.node.NodeState.TheVariants.{Hidden, Disabled};
 ghost use Rattle.records.specs.declared.stage.Stage.TheVariants.{Open, Sealed};
 ghost use Rattle.graph.specs.EdgeLists.{edges_in};
-ghost use Rattle.records.specs.Walks.{Ends};
-ghost use Rattle.graph.specs.Order.{Within, Complete, Once, Topological};
+ghost use Rattle.graph.specs.Order.{Ends, Within, Complete, Once, Topological};
 ghost use Rattle.graph.specs.Reach.{YesOrDisabled, YesGoesBack};
 ghost use Rattle.graph.specs.Tallies.{tally};
 

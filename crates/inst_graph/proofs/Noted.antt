@@ -8,11 +8,10 @@ use Rattle.records.specs.declared.stage.Stage.TheVariants.{Sealed}
 use Rattle.records.specs.Stages.{admission}
 use Rattle.tables.specs.Filled.{filled}
 use Rattle.graph.specs.Model.{Model, unless_refused}
-use Rattle.records.specs.Rule.{worth}
+use Rattle.analysis.specs.Rule.{worth}
 use Rattle.analysis.specs.Near.{near_of}
 use Rattle.analysis.specs.Runs.{room_for, run_answer, run_table, left_by}
-use Rattle.routes.specs.Reach.{reach_meaning}
-use Rattle.reconnect.specs.Reach.{is_enabled}
+use Rattle.reconnect.specs.Reach.{reach_meaning, is_enabled}
 use Rattle.inst_graph.specs.Reached.{reach_table}
 
 -- the front of a table that is cut from its start

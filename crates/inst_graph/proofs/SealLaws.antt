@@ -15,11 +15,11 @@ use Rattle.records.specs.declared.stage.Stage.{Stage}
 use Rattle.records.specs.declared.stage.Stage.TheVariants.{Open, Sealed}
 use Rattle.records.specs.Nodes.{no_node}
 use Rattle.records.specs.Stages.{admission}
-use Rattle.records.specs.Walks.{Touched, Joins, Ends}
+use Rattle.records.specs.Walks.{Touched, Joins}
 use Rattle.tables.specs.Filled.{filled}
 use Rattle.graph.specs.declared.raw.RawInstGraph.{RawInstGraph}
 use Rattle.graph.specs.Model.{Model, Outcome, outcome, admitted, model, unless_refused}
-use Rattle.graph.specs.Order.{Within, Complete, Once, Topological}
+use Rattle.graph.specs.Order.{Ends, Within, Complete, Once, Topological}
 use Rattle.graph.specs.Sealing.{in_place, with_places, sealed_in, with_reach}
 use Rattle.walks.specs.Cycles.{acyclic_answer, checked, left_blank, Tested}
 use Rattle.walks.proofs.Checking.{tested}
@@ -29,8 +29,7 @@ use Rattle.subgraph.specs.Places.{Placed}
 use Rattle.subgraph.specs.Subgraphs.{Summary, in_order}
 use Rattle.subgraph.specs.WholePartitions.{Whole, with_singletons, whole_partition, told_whole, LawfulWhole}
 use Rattle.analysis.specs.Runs.{left_by}
-use Rattle.routes.specs.Reach.{TellsReach}
-use Rattle.reconnect.specs.Reach.{is_enabled, graph_in}
+use Rattle.reconnect.specs.Reach.{is_enabled, TellsReach}
 use Rattle.inst_graph.specs.Reached.{reach_table}
 use Rattle.inst_graph.specs.Seals.{noted, sealed_by, seal, seal_table, places_of, WellSealed, RefusedWell}
 
@@ -171,7 +170,7 @@ module _ (g : RawInstGraph) (work : List Bool) (passed : Ok tt ≡ admission (mo
           touched_below x (y, inl j) = (edges_inside g x y j).0
           touched_below x (y, inr j) = (edges_inside g y x j).1
 
-      pub sealed_well : TellsReach is_enabled (graph_in one) two.reach → WellSealed (model g) two
+      pub sealed_well : TellsReach is_enabled one two.reach → WellSealed (model g) two
       sealed_well tells =
           let order : in_order s ≡ two.order = sym (ap (λ (q : Model). q.order) is_two) in
           record {
@@ -181,5 +180,5 @@ module _ (g : RawInstGraph) (work : List Bool) (passed : Ok tt ≡ admission (mo
             complete = subst (Complete N) order law.complete;
             once = subst Once order law.once;
             topological = subst (Topological m.edges) order law.topological;
-            tells = subst (λ q. TellsReach is_enabled (graph_in q) two.reach) (sym second) tells;
+            tells = subst (λ q. TellsReach is_enabled q two.reach) (sym second) tells;
           }

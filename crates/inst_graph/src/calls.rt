@@ -6,7 +6,7 @@ ghost use Rattle.graph.specs.Adding.{add_node, add_edge, node_record, stats_of};
 ghost use Rattle.graph.specs.Hiding.{disable, set_visibility, set_visibility_many, reset_visibility_to, keep_first_n};
 ghost use Rattle.graph.specs.HidingLaws.{named, Turned, KeptFirst};
 ghost use Rattle.analysis.specs.Near.{near_of};
-ghost use Rattle.records.specs.Rule.{Solves};
+ghost use Rattle.analysis.specs.Rule.{Solves};
 ghost use Rattle.analysis.specs.Runs.{run_answer, run_table};
 ghost use Rattle.sheet.specs.Reading.{sheet_read, answered, left};
 ghost use Rattle.sheet.specs.Encoding.{sheet_of, Given};

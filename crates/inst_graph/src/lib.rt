@@ -1,4 +1,6 @@
 // The graph as its users have it: every public call on one page.
+#![tactic(auto)]
+
 pub mod calls;
 pub mod inst_graph;
 pub mod noting;

@@ -4,8 +4,7 @@ ghost use Rattle.records.specs.declared.stage.Stage.TheVariants.{Sealed};
 ghost use Rattle.tables.specs.Filled.{filled};
 ghost use Rattle.graph.specs.Model.{model};
 ghost use Rattle.graph.specs.Sealing.{with_reach};
-ghost use Rattle.routes.specs.Reach.{TellsReach};
-ghost use Rattle.reconnect.specs.Reach.{is_enabled, graph_in};
+ghost use Rattle.reconnect.specs.Reach.{is_enabled, TellsReach};
 ghost use Rattle.inst_graph.specs.Reached.{reach_table};
 
 use graph::raw::RawInstGraph;
@@ -20,7 +19,7 @@ pub(crate) fn note_reach(graph: &mut RawInstGraph, work: &mut [bool]) -> Result<
     ensures done { result ≡ Ok tt }
     ensures after { model graph.new ≡ with_reach (reach_table (model graph.old)) (model graph.old) }
     ensures table { work.new ≡ filled (length (model graph.old).nodes) false work.old }
-    ensures tells { TellsReach is_enabled (graph_in (model graph.old)) (model graph.new).reach }
+    ensures tells { TellsReach is_enabled (model graph.old) (model graph.new).reach }
 {
     reach::<ReachNonDisabled>(graph, work)?;
     let count = graph.nodes().len();

@@ -1,3 +1,4 @@
-// The analyses of which a view is made: what can be reached, and the strands of a source.
+// From which nodes shown nodes, or nodes that are not disabled, can be reached.
+#![tactic(auto)]
+
 pub mod reach;
-pub mod strands;

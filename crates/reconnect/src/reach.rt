@@ -4,8 +4,7 @@ ghost use Rattle.records.specs.declared.node.Node.{Node};
 ghost use Rattle.records.specs.Nodes.{is_shown};
 ghost use Rattle.graph.specs.Model.{model};
 ghost use Rattle.analysis.specs.Runs.{run_answer, run_table};
-ghost use Rattle.routes.specs.Reach.{reach_meaning, TellsReach};
-ghost use Rattle.reconnect.specs.Reach.{is_enabled, graph_in};
+ghost use Rattle.reconnect.specs.Reach.{reach_meaning, is_enabled, TellsReach};
 
 use analysis::analysis::TopoAnalysis;
 use analysis::run::topo_analysis;
@@ -91,8 +90,8 @@ impl<Kind: ReachKind> TopoAnalysis for BwdReachableAnalysis<Kind> {
 // Tells of each node whether a node of the kind can be reached from it.
 pub fn reach<Kind: ReachKind>(graph: &RawInstGraph, table: &mut [bool]) -> Result<(), Refusal>
     ensures answer { result ≡ run_answer (length table.old) (model graph.now) }
-    ensures values { table.new ≡ run_table (reach_meaning wanted) false false (model graph.now) table.old }
-    ensures tells { result ≡ Ok tt → TellsReach wanted (graph_in (model graph.now)) (take (length (model graph.now).nodes) table.new) }
+    ensures values { table.new ≡ run_table (reach_meaning Kind.wanted) false false (model graph.now) table.old }
+    ensures tells { result ≡ Ok tt → TellsReach Kind.wanted (model graph.now) (take (length (model graph.now).nodes) table.new) }
 {
     let analysis: BwdReachableAnalysis<Kind> = BwdReachableAnalysis(PhantomData);
     topo_analysis(graph, &analysis, table)

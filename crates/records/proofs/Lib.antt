@@ -1,4 +1,0 @@
-pub mod Listed
-pub mod Walking
-pub mod Seen
-pub mod Unique

@@ -4,5 +4,3 @@ pub mod Refusals
 pub mod SheetRefusals
 pub mod Stages
 pub mod Walks
-pub mod Rule
-pub mod Strands

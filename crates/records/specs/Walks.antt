@@ -42,7 +42,3 @@ Runs es e a b = (e < length es) × ((slice_index_or es e no_edge).source ≡ a) 
 -- some edge runs from a to b
 abbrev pub Joins : List Edge → ℕ → ℕ → Type 0
 Joins es a b = (e : ℕ) × Runs es e a b
-
--- both ends of each edge are among the first n nodes
-abbrev pub Ends : ℕ → List Edge → Type 0
-Ends n es = (e : ℕ) → e < length es → ((slice_index_or es e no_edge).source < n) × ((slice_index_or es e no_edge).target < n)

@@ -1,4 +1,6 @@
 // Sheets: a graph written in bytes, and the reading of it.
+#![tactic(auto)]
+
 mod bytes;
 pub mod reading;
 mod rows;

@@ -1,4 +1,6 @@
 // Reads a graph sheet from standard input and prints what is in it, or one line that says why it is refused.
+#![tactic(auto)]
+
 use sheet_report::report::report;
 use std::io;
 use std::io::Read;

@@ -4,10 +4,10 @@ use Rattle.std.proofs.lemmas.List.{length-append, reverse-reverse}
 use Rattle.records.specs.declared.edge.Edge.{Edge}
 use Rattle.records.specs.declared.node.Place.{Place}
 use Rattle.records.specs.declared.refusal.Refusal.{Refusal}
-use Rattle.records.specs.Walks.{Among, Touched, Joins, Ends}
+use Rattle.records.specs.Walks.{Among, Touched, Joins}
 use Rattle.graph.specs.declared.raw.RawInstGraph.{RawInstGraph}
 use Rattle.graph.specs.Model.{model}
-use Rattle.graph.specs.Order.{Within, Complete, Once, Topological}
+use Rattle.graph.specs.Order.{Ends, Within, Complete, Once, Topological}
 use Rattle.walks.proofs.Seeing.{few_nodes}
 use Rattle.subgraph.specs.declared.places.Subgraphs.{Subgraphs}
 use Rattle.subgraph.specs.Places.{Placed}

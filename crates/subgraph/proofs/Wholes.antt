@@ -6,14 +6,13 @@ use Rattle.std.specs.List.{range_with_len}
 use Rattle.records.specs.declared.edge.Edge.{Edge}
 use Rattle.records.specs.declared.edge.Direction.TheVariants.{Outgoing, Incoming}
 use Rattle.records.specs.Edges.{no_edge}
-use Rattle.records.specs.Walks.{Among, Touched, Joins, Ends}
-use Rattle.graph.specs.Order.{stands_at, Within, Complete, Once, Topological}
+use Rattle.records.specs.Walks.{Among, Touched, Joins}
+use Rattle.graph.specs.Order.{stands_at, Ends, Within, Complete, Once, Topological}
 use Rattle.subgraph.specs.Orders.{Ordered, is_empty}
 use Rattle.subgraph.specs.Wholes.{alone, singletons, whole_order}
-use Rattle.records.proofs.Seen.{seen_joins, joins_seen}
+use Rattle.graph.proofs.Seen.{seen_joins, joins_seen}
 use Rattle.walks.specs.Exploring.{targets, sources}
-use Rattle.records.proofs.Listed.{among_left, among_right, among_either, among_reverse, among_reversed, get_or_among}
-use Rattle.graph.proofs.Standings.{stands_here, stands_later, stands_inside, stands_left, stands_right, once_append, once_one, once_cons, order_length}
+use Rattle.graph.proofs.Standings.{stands_here, stands_later, stands_inside, stands_left, stands_right, among_left, among_right, among_either, among_reverse, among_reversed, get_or_among, once_append, once_one, once_cons, order_length}
 
 turned : (n : ℕ) (before : List ℕ) → reverse (n ∷ before) ≡ reverse before ++ n ∷ []
 turned n before = reverse-append (n ∷ []) before

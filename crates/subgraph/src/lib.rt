@@ -1,4 +1,6 @@
 // The subgraphs of a graph without closed walks, each in an order in which sources stand before targets.
+#![tactic(auto)]
+
 pub mod adding;
 pub mod order;
 pub mod partition;

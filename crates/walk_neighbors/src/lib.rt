@@ -1,3 +1,5 @@
 // A node's neighbors past disabled nodes.
+#![tactic(auto)]
+
 pub mod hidden;
 pub mod walk;

@@ -6,9 +6,10 @@ use Rattle.records.specs.declared.edge.Edge.{Edge}
 use Rattle.records.specs.declared.edge.Direction.{Direction}
 use Rattle.records.specs.declared.edge.Direction.TheVariants.{Outgoing, Incoming}
 use Rattle.records.specs.Edges.{no_edge, near, far, add_if, neighbours, history}
-use Rattle.records.specs.Walks.{Among, Joins, Ends}
+use Rattle.records.specs.Walks.{Among, Joins}
 use Rattle.graph.specs.declared.raw.RawInstGraph.{RawInstGraph}
 use Rattle.graph.specs.Model.{model}
+use Rattle.graph.specs.Order.{Ends}
 use Rattle.walks.specs.Exploring.{targets, sources}
 
 -- edge number e runs from a to b, looked at in direction d

@@ -1,5 +1,7 @@
 // Examples that are run: the graph's limits and lists, its order, neighbors past disabled nodes, sealed graphs,
-// analyses, strands, sheets and reports.
+// analyses, sheets and reports.
+#![tactic(auto)]
+
 #[cfg(test)]
 mod analyses;
 #[cfg(test)]
@@ -14,5 +16,3 @@ mod reports;
 mod sealed;
 #[cfg(test)]
 mod sheets;
-#[cfg(test)]
-mod strands;

@@ -2,7 +2,7 @@ use Rattle.std.proofs.Common.{◌≡◌, true, false, cond, [], get_or, sym, ap,
 use Rattle.graph.specs.Model.{model}
 use Rattle.walk_neighbors.specs.PastDisabled.{sees, is_off, enabled_neighbours}
 use Rattle.analysis.specs.Near.{looking_along, near_of}
-use Rattle.records.specs.Rule.{closed}
+use Rattle.analysis.specs.Rule.{closed}
 use Rattle.analysis.proofs.run.collect.Goals as goal
 
 pub returns : goal.returns
@@ -14,7 +14,7 @@ returns g c =
     let n = c.args.at in
     let skipping : skp ≡ true = search rules in
     let on : is_off m n ≡ false = search rules in
-    let way = c.looking-along-direction.ensures ∙ ap looking_along c.forward.ensures in
+    let way = c.looking_along-direction.ensures ∙ ap looking_along c.forward.ensures in
     let all = sees (looking_along fwd) m n in
     let past = enabled_neighbours (looking_along fwd) m n in
     let near : near_of fwd skp m n ≡ past =
@@ -22,4 +22,4 @@ returns g c =
     ∙ ap (λ b. cond b [] past) on
     in
     let given = c.new.ensures.coming ∙ ap (λ d. enabled_neighbours d m n) way ∙ sym near in
-    c.join-all-2.ensures ∙ ap (closed a m.nodes (λ k. get_or c.args.table.now k a.blank) n) given
+    c.join_all-2.ensures ∙ ap (closed a m.nodes (λ k. get_or c.args.table.now k a.blank) n) given

@@ -2,7 +2,7 @@ use Rattle.std.proofs.Common.{◌≡◌, ◌<◌, length, get_or, fold, sym, ap,
 use Rattle.std.proofs.lemmas.List.{get_or_read}
 use Rattle.records.specs.Nodes.{no_node}
 use Rattle.graph.specs.Model.{model}
-use Rattle.records.specs.Rule.{joining}
+use Rattle.analysis.specs.Rule.{joining}
 use Rattle.analysis.proofs.run.join_all.Goals as goal
 
 pub loop-other-preserved : goal.loop-other-preserved
@@ -30,7 +30,7 @@ returns g c =
     let J = joining a m.nodes (λ k. get_or c.args.table.now k a.blank) c.args.at in
     let here = ap (λ ns. get_or ns c.args.at no_node) c.nodes-nodes.ensures in
     let sum : c.loop-other.value ≡ fold J (a.start c.args.at (get_or m.nodes c.args.at no_node)) (g.C.Cursor.coming m c.args.cursor) =
-    sym (ap (fold J c.loop-other.value) c.in-default.ensures.steps.0)
+    sym (ap (fold J c.loop-other.value) c.in_default.ensures.steps.0)
     ∙ c.loop-other.invariant.1
     ∙ ap (λ v. fold J v (g.C.Cursor.coming m c.args.cursor)) (c.start-value.ensures ∙ ap (a.start c.args.at) here)
     in

@@ -1,6 +1,6 @@
 use Rattle.std.proofs.Common.{◌≡◌, length, get_or, fold}
 use Rattle.graph.specs.Model.{model}
-use Rattle.records.specs.Rule.{joining}
+use Rattle.analysis.specs.Rule.{joining}
 use Rattle.analysis.proofs.run.join_all.Given as goal
 
 -- what is left to join, after what was joined, gives what all of it gives

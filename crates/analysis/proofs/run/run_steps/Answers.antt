@@ -2,7 +2,7 @@ use Rattle.std.proofs.Common.{◌≡◌, ℕ, ◌+◌, ◌<◌, ◌≤◌, List,
 use Rattle.std.proofs.lemmas.List.{drop-set-lt, take_at}
 use Rattle.graph.specs.Model.{model}
 use Rattle.analysis.specs.Near.{near_of}
-use Rattle.records.specs.Rule.{ruled, Solves, value_table}
+use Rattle.analysis.specs.Rule.{ruled, Solves, value_table}
 use Rattle.analysis.specs.Runs.{walk_at}
 use Rattle.analysis.proofs.Sealed.{runnable}
 use Rattle.analysis.proofs.Stepping.{Done, walk_within, done_more, done_all, value_table_solves, length_values}

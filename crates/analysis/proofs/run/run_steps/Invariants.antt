@@ -1,7 +1,7 @@
 use Rattle.std.proofs.Common.{◌≡◌, ℕ, ◌<◌, length, get_or, drop}
 use Rattle.graph.specs.Model.{model}
 use Rattle.analysis.specs.Near.{near_of}
-use Rattle.records.specs.Rule.{worth}
+use Rattle.analysis.specs.Rule.{worth}
 use Rattle.analysis.specs.Runs.{walk_at}
 use Rattle.analysis.proofs.run.run_steps.Given as goal
 

@@ -1,29 +1,28 @@
 use Rattle.std.proofs.Common.{◌≡◌, ◌-◌, false, length, take, sym, refl, ap, ◌∙◌, subst}
 use Rattle.tables.specs.Filled.{filled}
 use Rattle.graph.specs.Model.{Model, model}
-use Rattle.records.specs.Walks.{Ends}
+use Rattle.graph.specs.Order.{Ends}
 use Rattle.graph.specs.Sealing.{with_reach}
-use Rattle.routes.specs.Reach.{TellsReach}
-use Rattle.reconnect.specs.Reach.{is_enabled, graph_in}
+use Rattle.reconnect.specs.Reach.{is_enabled, TellsReach}
 use Rattle.inst_graph.specs.Reached.{reach_table}
 use Rattle.inst_graph.proofs.Yes.{yes_or_disabled, yes_goes_back}
 use Rattle.inst_graph.proofs.Noted.{cut, run_done, front, blank_again, length_reach}
 use Rattle.inst_graph.proofs.noting.note_reach.Goals as goal
 
-pub put-reach-requires : goal.put-reach-requires
-put-reach-requires c =
+pub put_reach-requires : goal.put_reach-requires
+put_reach-requires c =
     let g = c.args.graph.now in
     let m = model g in
     let N = length m.nodes in
     let t = c.reach.new.table in
     let piece = cut (length c.nodes-count.result.now) N t (ap length c.nodes-count.ensures) in
     let is = piece ∙ front m c.args.work.now c.requires.sealed c.requires.room t c.reach.ensures.values in
-    let tells = subst (TellsReach is_enabled (graph_in m)) (sym piece) (c.reach.ensures.tells (c.reach.ensures.answer ∙ run_done m c.args.work.now c.requires.sealed c.requires.room)) in
+    let tells = subst (TellsReach is_enabled m) (sym piece) (c.reach.ensures.tells (c.reach.ensures.answer ∙ run_done m c.args.work.now c.requires.sealed c.requires.room)) in
     let reach = take (length c.nodes-count.result.now - 0) t in
     record {
       sealed = c.requires.sealed;
       long = ap length is ∙ length_reach m ∙ g.counted;
-      or-disabled = yes_or_disabled m reach tells;
+      or_disabled = yes_or_disabled m reach tells;
       goes_back = yes_goes_back m reach tells (subst (λ k. Ends k m.edges) (sym g.counted) g.ends);
     }
 
@@ -36,11 +35,11 @@ returns c =
     let count = ap length c.nodes-count.ensures in
     let piece = cut (length c.nodes-count.result.now) N t count in
     let is = piece ∙ front m c.args.work.now c.requires.sealed c.requires.room t c.reach.ensures.values in
-    let after = c.put-reach.ensures in
+    let after = c.put_reach.ensures in
     let tells = c.reach.ensures.tells (c.reach.ensures.answer ∙ run_done m c.args.work.now c.requires.sealed c.requires.room) in
     record {
       done = refl;
       after = after ∙ ap (λ l. with_reach l m) is;
       table = c.fill.ensures ∙ ap (λ n. filled n false t) count ∙ blank_again m c.args.work.now c.requires.sealed c.requires.room t c.reach.ensures.values;
-      tells = subst (TellsReach is_enabled (graph_in m)) (sym (ap (λ (x : Model). x.reach) after ∙ piece)) tells;
+      tells = subst (TellsReach is_enabled m) (sym (ap (λ (x : Model). x.reach) after ∙ piece)) tells;
     }

@@ -17,15 +17,15 @@ no_law : (r : Result ℕ Refusal) (e : Refusal) (P : ℕ → Type 0) → r ≡ E
 no_law (Ok x) e P q = let z : ◌≡◌ {A = ℕ} 0 1 = cc in absurd (omega arith)
 no_law (Err x) e P q = tt
 
-pub returns-in-err-parts : goal.returns-in-err-parts
-returns-in-err-parts c =
+pub returns-in_err-parts : goal.returns-in_err-parts
+returns-in_err-parts c =
     let g = c.args.graph.now in
     let work = c.args.work.now in
-    let was = c.in-err-parts.ensures in
-    let e = c.in-err-parts.field-0.0 in
-    let r = c.from-residual-in-err-parts.result in
-    let is = err_is r e c.from-residual-in-err-parts.ensures.1 in
-    let adm = c.in-ok-admit.ensures ∙ ap of_open c.stage.ensures in
+    let was = c.in_err-parts.ensures in
+    let e = c.in_err-parts.field-0.0 in
+    let r = c.from-residual-in_err-parts.result in
+    let is = err_is r e c.from-residual-in_err-parts.ensures.1 in
+    let adm = c.in_ok-admit.ensures ∙ ap of_open c.stage.ensures in
     let whole = ap (λ x. outcome x (model g)) is ∙ refused_whole g work adm e was.answer in
     record {
       whole = whole;
@@ -38,19 +38,19 @@ pub returns : goal.returns
 returns c =
     let g = c.args.graph.now in
     let work = c.args.work.now in
-    let adm = c.in-ok-admit.ensures ∙ ap of_open c.stage.ensures in
-    let s = c.in-ok-parts.parts in
-    let was = c.in-ok-parts.ensures in
-    let one = model c.seal-in-order.new.self in
-    let two = model c.note-reach.new.graph in
+    let adm = c.in_ok-admit.ensures ∙ ap of_open c.stage.ensures in
+    let s = c.in_ok-parts.parts in
+    let was = c.in_ok-parts.ensures in
+    let one = model c.seal_in_order.new.self in
+    let two = model c.note_reach.new.graph in
     let places = cut (length c.nodes-count.result.now) (length (model g).nodes) s.places (ap length c.nodes-count.ensures) in
     let first : one ≡ sealed_in (take (length (model g).nodes) s.places) (in_order s) (model g) =
-    c.seal-in-order.ensures ∙ ap (λ l. sealed_in l c.topo-node-indices.result.now (model g)) places ∙ ap (λ o. sealed_in (take (length (model g).nodes) s.places) o (model g)) c.topo-node-indices.ensures in
-    let noted = c.note-reach.ensures in
+    c.seal_in_order.ensures ∙ ap (λ l. sealed_in l c.topo_node_indices.result.now (model g)) places ∙ ap (λ o. sealed_in (take (length (model g).nodes) s.places) o (model g)) c.topo_node_indices.ensures in
+    let noted = c.note_reach.ensures in
     let whole = sealed_whole g work adm s was.answer was.law one two first noted.after in
     record {
       whole = whole;
-      table = sealed_table g work adm s was.answer was.law one two first noted.after c.subgraphs.new.work c.note-reach.new.work was.table noted.table;
+      table = sealed_table g work adm s was.answer was.law one two first noted.after c.subgraphs.new.work c.note_reach.new.work was.table noted.table;
       law = sealed_well g work adm s was.answer was.law one two first noted.after noted.tells;
       refusals = refusals g (length work) (Ok s.count) two whole;
     }

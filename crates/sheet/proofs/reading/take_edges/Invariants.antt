@@ -5,5 +5,5 @@ use Rattle.sheet.proofs.reading.take_edges.Given as goal
 
 abbrev pub invariant-loop-row : goal.invariant-loop-row
 invariant-loop-row l =
-    (edges_read (l.count - l.-row) l.at l.bytes (model l.graph) ≡ edges_read l.count l.first l.bytes (model l.initial.graph))
+    (edges_read (l.count - l._row) l.at l.bytes (model l.graph) ≡ edges_read l.count l.first l.bytes (model l.initial.graph))
     × (l.at ≤ length l.bytes)

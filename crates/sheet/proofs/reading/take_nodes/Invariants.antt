@@ -5,6 +5,6 @@ use Rattle.sheet.proofs.reading.take_nodes.Given as goal
 
 abbrev pub invariant-loop-row : goal.invariant-loop-row
 invariant-loop-row l =
-    (nodes_read (l.count - l.-row) l.at l.bytes (model l.graph) ≡ nodes_read l.count 7 l.bytes (model l.initial.graph))
-    × (l.at ≡ 7 + 6 * l.-row)
+    (nodes_read (l.count - l._row) l.at l.bytes (model l.graph) ≡ nodes_read l.count 7 l.bytes (model l.initial.graph))
+    × (l.at ≡ 7 + 6 * l._row)
     × (l.at ≤ length l.bytes)

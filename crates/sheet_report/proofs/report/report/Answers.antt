@@ -15,4 +15,4 @@ returns-in-Ok c =
     let o = sheet_read c.args.bytes.now in
     let said = c.in-Ok.ensures in
     let same = ap graph_text said.after ∙ read_report o said.answer in
-    subst (λ t. IfOk c.graph-text.result (λ s. string_bytes s ≡ t)) same c.graph-text.ensures
+    subst (λ t. IfOk c.graph_text.result (λ s. string_bytes s ≡ t)) same c.graph_text.ensures

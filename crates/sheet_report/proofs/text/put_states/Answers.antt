@@ -6,7 +6,7 @@ use Rattle.sheet_report.proofs.text.put_states.Goals as goal
 pub returns : goal.returns
 returns c =
     let s = c.args.summary.now in
-    six_lines c.put-fact-6.result
+    six_lines c.put_fact-6.result
     (fact (codes "nodes") s.nodes)
     (fact (codes "edges") s.edges)
     (fact (codes "shown") s.shown)
@@ -14,15 +14,15 @@ returns c =
     (fact (codes "disabled") s.disabled)
     (fact (codes "generation") s.generation)
     (string_bytes c.args.text.now)
-    (string_bytes c.put-fact.new.text)
-    (string_bytes c.put-fact-2.new.text)
-    (string_bytes c.put-fact-3.new.text)
-    (string_bytes c.put-fact-4.new.text)
-    (string_bytes c.put-fact-5.new.text)
-    (string_bytes c.put-fact-6.new.text)
-    c.in-ok-put-fact.ensures
-    c.in-ok-put-fact-2.ensures
-    c.in-ok-put-fact-3.ensures
-    c.in-ok-put-fact-4.ensures
-    c.in-ok-put-fact-5.ensures
-    c.put-fact-6.ensures
+    (string_bytes c.put_fact.new.text)
+    (string_bytes c.put_fact-2.new.text)
+    (string_bytes c.put_fact-3.new.text)
+    (string_bytes c.put_fact-4.new.text)
+    (string_bytes c.put_fact-5.new.text)
+    (string_bytes c.put_fact-6.new.text)
+    c.in_ok-put_fact.ensures
+    c.in_ok-put_fact-2.ensures
+    c.in_ok-put_fact-3.ensures
+    c.in_ok-put_fact-4.ensures
+    c.in_ok-put_fact-5.ensures
+    c.put_fact-6.ensures

@@ -27,7 +27,7 @@ explore-requires c =
     let nodes = few_nodes g in
     let r = room_two (model g).edges N v (few_edges g) in
     let b = blanks_le N v in
-    record { table = c.requires.visited-room; below = subst (Below N) (sym top) (c.requires.root, tt); room = omega arith; notes = omega arith }
+    record { table = c.requires.visited_room; below = subst (Below N) (sym top) (c.requires.root, tt); room = omega arith; notes = omega arith }
 
 -- the walk both ways begins with the root alone
 found_left : (es : List Edge) (N : ℕ) (v : List Bool) (root : ℕ) (st o : List ℕ) (v' : List Bool) (o' : List ℕ) → st ≡ root ∷ [] → o ≡ [] → Left (explored (nexts Both es) (blanks N v) st v o) v' o' → Left (found_from es N v root) v' o'
@@ -43,9 +43,9 @@ sort-requires c =
     let root = c.args.root in
     let top = c.push.ensures ∙ ap (λ l. root ∷ l) c.new-stack.ensures in
     let left = found_left es N v root (held c.push.new.self) (held c.new-found.result) c.explore.new.visited (held c.explore.new.order) top c.new-found.ensures c.explore.ensures in
-    let tie = tied es N (edges_inside g) root c.requires.root v c.requires.visited-room c.requires.shut c.requires.unvisited in
+    let tie = tied es N (edges_inside g) root c.requires.root v c.requires.visited_room c.requires.shut c.requires.unvisited in
     let f = (found_from es N v root).order in
-    let chosen : held c.start-nodes-chosen.result ≡ starts es f = c.start-nodes-chosen.ensures ∙ ap (starts es) left.turns in
+    let chosen : held c.start_nodes-chosen.result ≡ starts es f = c.start_nodes-chosen.ensures ∙ ap (starts es) left.turns in
     let size = ap length chosen in
     let few = length_starts es f in
     let most = tie.size in
@@ -67,6 +67,6 @@ returns c =
     let root = c.args.root in
     let top = c.push.ensures ∙ ap (λ l. root ∷ l) c.new-stack.ensures in
     let left = found_left es N v root (held c.push.new.self) (held c.new-found.result) c.explore.new.visited (held c.explore.new.order) top c.new-found.ensures c.explore.ensures in
-    let chosen = c.start-nodes-chosen.ensures ∙ ap (starts es) left.turns in
+    let chosen = c.start_nodes-chosen.ensures ∙ ap (starts es) left.turns in
     let order : Left (sorted_from es N v w root) c.sort.new.appended (held c.sort.new.order) = subst (λ (t : Trail). Left t c.sort.new.appended (held c.sort.new.order)) (λ i. sorted es (blanks N w) (chosen i) w (c.new-order.ensures i)) c.sort.ensures in
     record { is = order.turns; marks = left.marks; appended = order.marks }

@@ -8,7 +8,7 @@ use Rattle.walks.specs.Exploring.{sources}
 use Rattle.subgraph.specs.Orders.{starts, is_empty}
 use Rattle.subgraph.proofs.Components.{length_starts}
 use Rattle.subgraph.proofs.order.start_nodes.Goals as goal
-use Rattle.subgraph.proofs.order.start_nodes.Goals.{then-no-neighbors, else-no-neighbors}
+use Rattle.subgraph.proofs.order.start_nodes.Goals.{then-no_neighbors, else-no_neighbors}
 
 pub push-requires : goal.push-requires
 push-requires c =
@@ -26,11 +26,11 @@ loop-i-preserved c =
     let i = c.loop-i.i in
     let n = get_or items i 0 in
     let more : starts es (latest 0 (i + 1) items) ≡ starts es (n ∷ latest 0 i items) = ap (λ k. starts es (latest 0 k items)) (add-one i) in
-    elim c.if-no-neighbors.branch [
-      | then-no-neighbors w ↦
-          let test : is_empty (sources es n) ≡ true = sym w.if-no-neighbors.ensures in
+    elim c.if-no_neighbors.branch [
+      | then-no_neighbors w ↦
+          let test : is_empty (sources es n) ≡ true = sym w.if-no_neighbors.ensures in
           ap held w.chosen-is ∙ w.push.ensures ∙ ap (λ l. n ∷ l) c.loop-i.invariant ∙ ap (λ b. add_if b n (starts es (latest 0 i items))) (sym test) ∙ sym more
-      | else-no-neighbors w ↦
-          let test : is_empty (sources es n) ≡ false = sym w.if-no-neighbors.ensures in
+      | else-no_neighbors w ↦
+          let test : is_empty (sources es n) ≡ false = sym w.if-no_neighbors.ensures in
           ap held w.chosen-is ∙ c.loop-i.invariant ∙ ap (λ b. add_if b n (starts es (latest 0 i items))) (sym test) ∙ sym more
     ]

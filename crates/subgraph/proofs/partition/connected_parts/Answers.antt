@@ -8,14 +8,14 @@ pub partition-subgraphs-requires : goal.partition-subgraphs-requires
 partition-subgraphs-requires c =
     let g = c.args.graph.now in
     let work = c.args.work.now in
-    let t = c.in-ok-check-acyclic.ensures in
-    let v = c.check-acyclic.new.work in
+    let t = c.in_ok-check_acyclic.ensures in
+    let v = c.check_acyclic.new.work in
     record { found_room = found_room g work (sym t.answer) v t.table; appended_room = few_nodes g; unfound = unfound g work (sym t.answer) v t.table; unappended = unappended g work (sym t.answer) v t.table }
 
 pub fill-requires : goal.fill-requires
 fill-requires c =
-    let t = c.in-ok-check-acyclic.ensures in
-    let room = found_room c.args.graph.now c.args.work.now (sym t.answer) c.check-acyclic.new.work t.table in
+    let t = c.in_ok-check_acyclic.ensures in
+    let room = found_room c.args.graph.now c.args.work.now (sym t.answer) c.check_acyclic.new.work t.table in
     let count = ap length c.nodes.ensures in
     omega arith
 
@@ -23,8 +23,8 @@ pub returns : goal.returns
 returns c =
     let g = c.args.graph.now in
     let work = c.args.work.now in
-    let t = c.in-ok-check-acyclic.ensures in
-    let v = c.check-acyclic.new.work in
+    let t = c.in_ok-check_acyclic.ensures in
+    let v = c.check_acyclic.new.work in
     let f = c.partition-subgraphs.new.found in
     let a = c.partition-subgraphs.new.appended in
     let s = c.partition-subgraphs.result in

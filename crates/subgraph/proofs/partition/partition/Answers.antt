@@ -7,21 +7,21 @@ use Rattle.subgraph.specs.Partitions.{Partition, turn, parted}
 use Rattle.subgraph.specs.Places.{order_of, Filled}
 use Rattle.subgraph.proofs.Partitioning.{root_at, lawful, filled_joined, filled_passed}
 use Rattle.subgraph.proofs.partition.partition.Goals as goal
-use Rattle.subgraph.proofs.partition.partition.Goals.{then-begins-subgraph, else-begins-subgraph}
+use Rattle.subgraph.proofs.partition.partition.Goals.{then-begins_subgraph, else-begins_subgraph}
 
-pub order-from-order-requires : goal.order-from-order-requires
-order-from-order-requires c =
+pub order_from-order-requires : goal.order_from-order-requires
+order_from-order-requires c =
     let count = ap length c.nodes-node-end.ensures in
     let low : c.loop-node.node < length (model c.args.graph.now).nodes = omega arith in
-    let r = root_at c.args.graph.now c.args.found.now c.args.appended.now c.requires.found_room c.requires.appended_room c.requires.unfound c.requires.unappended c.loop-node.node low c.loop-node.found c.loop-node.appended c.loop-node.subgraphs c.loop-node.invariant (sym c.if-begins-subgraph.ensures) in
-    record { root = low; visited-room = r.found_room; appended_room = r.appended_room; shut = r.shut; unvisited = r.new; within = r.within }
+    let r = root_at c.args.graph.now c.args.found.now c.args.appended.now c.requires.found_room c.requires.appended_room c.requires.unfound c.requires.unappended c.loop-node.node low c.loop-node.found c.loop-node.appended c.loop-node.subgraphs c.loop-node.invariant (sym c.if-begins_subgraph.ensures) in
+    record { root = low; visited_room = r.found_room; appended_room = r.appended_room; shut = r.shut; unvisited = r.new; within = r.within }
 
 pub add-requires : goal.add-requires
 add-requires c =
     let count = ap length c.nodes-node-end.ensures in
     let low : c.loop-node.node < length (model c.args.graph.now).nodes = omega arith in
-    let r = root_at c.args.graph.now c.args.found.now c.args.appended.now c.requires.found_room c.requires.appended_room c.requires.unfound c.requires.unappended c.loop-node.node low c.loop-node.found c.loop-node.appended c.loop-node.subgraphs c.loop-node.invariant (sym c.if-begins-subgraph.ensures) in
-    let is = sym c.order-from-order.ensures.is in
+    let r = root_at c.args.graph.now c.args.found.now c.args.appended.now c.requires.found_room c.requires.appended_room c.requires.unfound c.requires.unappended c.loop-node.node low c.loop-node.found c.loop-node.appended c.loop-node.subgraphs c.loop-node.invariant (sym c.if-begins_subgraph.ensures) in
+    let is = sym c.order_from-order.ensures.is in
     record { nodes = subst (Below 1024) is r.below; room = subst (λ o. length o + length (order_of c.loop-node.subgraphs) ≤ 1024) is r.room; count = r.count }
 
 pub loop-node-preserved : goal.loop-node-preserved
@@ -32,19 +32,19 @@ loop-node-preserved c =
     let start : Partition = record { found = c.args.found.now; appended = c.args.appended.now; orders = [] } in
     let n = c.loop-node.node in
     let p = parted es N n start in
-    subst (λ k. Filled (parted es N k start) c.if-begins-subgraph.found c.if-begins-subgraph.appended c.if-begins-subgraph.subgraphs) (sym (add-one n))
-    (elim c.if-begins-subgraph.branch [
-      | then-begins-subgraph w ↦
-          filled_joined es N n p c.loop-node.found c.loop-node.appended c.loop-node.subgraphs c.loop-node.invariant (held w.order-from-order.result)
-          c.if-begins-subgraph.found c.if-begins-subgraph.appended c.if-begins-subgraph.subgraphs
-          (w.found-is ∙ w.order-from-order.ensures.marks) (w.appended-is ∙ w.order-from-order.ensures.appended) w.order-from-order.ensures.is
+    subst (λ k. Filled (parted es N k start) c.if-begins_subgraph.found c.if-begins_subgraph.appended c.if-begins_subgraph.subgraphs) (sym (add-one n))
+    (elim c.if-begins_subgraph.branch [
+      | then-begins_subgraph w ↦
+          filled_joined es N n p c.loop-node.found c.loop-node.appended c.loop-node.subgraphs c.loop-node.invariant (held w.order_from-order.result)
+          c.if-begins_subgraph.found c.if-begins_subgraph.appended c.if-begins_subgraph.subgraphs
+          (w.found-is ∙ w.order_from-order.ensures.marks) (w.appended-is ∙ w.order_from-order.ensures.appended) w.order_from-order.ensures.is
           (ap order_of w.subgraphs-is ∙ w.add.ensures.order) (ap (λ (s : Subgraphs). s.places) w.subgraphs-is ∙ w.add.ensures.places) (ap (λ (s : Subgraphs). s.count) w.subgraphs-is ∙ w.add.ensures.count)
-          (sym w.if-begins-subgraph.ensures)
-      | else-begins-subgraph w ↦
-          subst (λ f. Filled (turn es N n p) f c.if-begins-subgraph.appended c.if-begins-subgraph.subgraphs) (sym w.found-is)
-          (subst (λ a. Filled (turn es N n p) c.loop-node.found a c.if-begins-subgraph.subgraphs) (sym w.appended-is)
+          (sym w.if-begins_subgraph.ensures)
+      | else-begins_subgraph w ↦
+          subst (λ f. Filled (turn es N n p) f c.if-begins_subgraph.appended c.if-begins_subgraph.subgraphs) (sym w.found-is)
+          (subst (λ a. Filled (turn es N n p) c.loop-node.found a c.if-begins_subgraph.subgraphs) (sym w.appended-is)
           (subst (λ s. Filled (turn es N n p) c.loop-node.found c.loop-node.appended s) (sym w.subgraphs-is)
-          (filled_passed es N n p c.loop-node.found c.loop-node.appended c.loop-node.subgraphs c.loop-node.invariant (sym w.if-begins-subgraph.ensures))))
+          (filled_passed es N n p c.loop-node.found c.loop-node.appended c.loop-node.subgraphs c.loop-node.invariant (sym w.if-begins_subgraph.ensures))))
     ])
 
 pub returns : goal.returns

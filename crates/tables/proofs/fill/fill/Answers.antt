@@ -1,4 +1,4 @@
-use Rattle.std.proofs.Common.{◌≡◌, ◌<◌, length, set, ap, ◌∙◌, rules}
+use Rattle.std.proofs.Common.{◌<◌, length, set, ap, ◌∙◌, rules}
 use Rattle.tables.proofs.Filling.{fill_step}
 use Rattle.tables.proofs.fill.fill.Goals as goal
 

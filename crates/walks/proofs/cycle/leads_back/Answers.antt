@@ -15,8 +15,8 @@ use Rattle.walks.proofs.Closed.{back_same, back_past, restored}
 use Rattle.walks.proofs.Closure.{Past}
 use Rattle.walks.proofs.cycle.leads_back.Goals as goal
 
-pub push-unvisited-requires : goal.push-unvisited-requires
-push-unvisited-requires c =
+pub push_unvisited-requires : goal.push_unvisited-requires
+push_unvisited-requires c =
     let g = c.args.graph.now in
     let few = length_neighbours Outgoing (history (model g).edges) c.args.node in
     let fit = few_edges g in
@@ -36,12 +36,12 @@ explore-requires c =
     let nodes = few_nodes g in
     let none = ap length c.new-stack.ensures in
     let none' = ap length c.new-order.ensures in
-    let pile = ap length c.push-unvisited.ensures.pushed in
+    let pile = ap length c.push_unvisited.ensures.pushed in
     let height = length_piled (targets es n) v (held c.new-stack.result) in
     let p = pending_total (targets es) N v in
     let t = total_edges Outgoing (history es) N in
     let b = blanks_le N v in
-    record { table = c.requires.table; below = c.push-unvisited.ensures.below; room = omega arith; notes = omega arith }
+    record { table = c.requires.table; below = c.push_unvisited.ensures.below; room = omega arith; notes = omega arith }
 
 pub returns : goal.returns
 returns c =
@@ -51,7 +51,7 @@ returns c =
     let n = c.args.node in
     let N = length (model g).nodes in
     let o = held c.new-order.result in
-    let stack : held c.push-unvisited.new.stack ≡ piled (targets es n) v [] = c.push-unvisited.ensures.pushed ∙ ap (λ s. piled (targets es n) v s) c.new-stack.ensures in
+    let stack : held c.push_unvisited.new.stack ≡ piled (targets es n) v [] = c.push_unvisited.ensures.pushed ∙ ap (λ s. piled (targets es n) v s) c.new-stack.ensures in
     let marks : c.explore.new.visited ≡ (explored (targets es) (blanks N v) (piled (targets es n) v []) v o).visited = c.explore.ensures.marks ∙ ap (λ s. (explored (targets es) (blanks N v) s v o).visited) stack in
     let count : length c.nodes.result.now ≡ N = ap length c.nodes.ensures in
     record {

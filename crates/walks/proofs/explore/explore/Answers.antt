@@ -15,8 +15,8 @@ push-requires c =
     let long : N ≤ length c.loop-node.visited = omega arith in
     order_room (λ n v st. piled (next n) v st) next (λ n v st. length_piled (next n) v st) N c.loop-node.visited (held c.loop-node.stack) (held c.pop.new.self) (held c.loop-node.order) c.in-Some.node c.in-Some.ensures long c.if-not-visited-node.true c.loop-node.invariant.below c.loop-node.invariant.notes
 
-pub push-nexts-requires : goal.push-nexts-requires
-push-nexts-requires c =
+pub push_nexts-requires : goal.push_nexts-requires
+push_nexts-requires c =
     let N = length (model c.args.graph.now).nodes in
     let next = nexts c.args.ways (model c.args.graph.now).edges in
     let v = c.loop-node.visited in
@@ -37,7 +37,7 @@ loop-node-smaller-then-not-visited-node c =
     let v = c.loop-node.visited in
     let n = c.in-Some.node in
     let long : N ≤ length v = omega arith in
-    subst (λ s. length s + pending next N (set v n true) < length (held c.loop-node.stack) + pending next N v) (sym c.push-nexts.ensures.pushed)
+    subst (λ s. length s + pending next N (set v n true) < length (held c.loop-node.stack) + pending next N v) (sym c.push_nexts.ensures.pushed)
     (falls (λ n v st. piled (next n) v st) next (λ n v st. length_piled (next n) v st) N v (held c.loop-node.stack) (held c.pop.new.self) (held c.loop-node.order) n c.in-Some.ensures long c.if-not-visited-node.true c.loop-node.invariant.below)
 
 pub loop-node-preserved-then-not-visited-node : goal.loop-node-preserved-then-not-visited-node
@@ -47,14 +47,14 @@ loop-node-preserved-then-not-visited-node c =
     let v = c.loop-node.visited in
     let n = c.in-Some.node in
     let long : N ≤ length v = omega arith in
-    let pile = c.push-nexts.ensures.pushed in
+    let pile = c.push_nexts.ensures.pushed in
     let v₀ = c.args.visited.now in
     let st₀ = held c.args.stack.now in
     let o₀ = held c.args.order.now in
     let rest = held c.pop.new.self in
     subst (λ s. Going (λ n v st. piled (next n) v st) next N v₀ st₀ o₀ (set v n true) s (held c.push.new.self)) (sym pile)
     (subst (λ o. Going (λ n v st. piled (next n) v st) next N v₀ st₀ o₀ (set v n true) (piled (next n) (set v n true) rest) o) (sym c.push.ensures)
-    (new_going (λ n v st. piled (next n) v st) next (λ n v st. length_piled (next n) v st) N v (held c.loop-node.stack) rest (held c.loop-node.order) n c.in-Some.ensures long c.if-not-visited-node.true c.loop-node.invariant.below v₀ st₀ o₀ (subst (Below N) pile c.push-nexts.ensures.below) c.loop-node.invariant))
+    (new_going (λ n v st. piled (next n) v st) next (λ n v st. length_piled (next n) v st) N v (held c.loop-node.stack) rest (held c.loop-node.order) n c.in-Some.ensures long c.if-not-visited-node.true c.loop-node.invariant.below v₀ st₀ o₀ (subst (Below N) pile c.push_nexts.ensures.below) c.loop-node.invariant))
 
 pub loop-node-preserved : goal.loop-node-preserved
 loop-node-preserved c =
@@ -65,4 +65,4 @@ loop-node-preserved c =
     old_going (λ n v st. piled (next n) v st) next (λ n v st. length_piled (next n) v st) N v (held c.loop-node.stack) (held c.pop.new.self) (held c.loop-node.order) c.in-Some.node c.in-Some.ensures long c.args.visited.now (held c.args.stack.now) (held c.args.order.now) c.if-not-visited-node.false c.loop-node.invariant
 
 pub returns : goal.returns
-returns c = ends_left (λ n v st. piled (nexts c.args.ways (model c.args.graph.now).edges n) v st) (nexts c.args.ways (model c.args.graph.now).edges) (length (model c.args.graph.now).nodes) c.args.visited.now (held c.args.stack.now) (held c.args.order.now) c.loop-node.visited (held c.loop-node.stack) (held c.loop-node.order) c.in-default.ensures.0 c.loop-node.invariant
+returns c = ends_left (λ n v st. piled (nexts c.args.ways (model c.args.graph.now).edges n) v st) (nexts c.args.ways (model c.args.graph.now).edges) (length (model c.args.graph.now).nodes) c.args.visited.now (held c.args.stack.now) (held c.args.order.now) c.loop-node.visited (held c.loop-node.stack) (held c.loop-node.order) c.in_default.ensures.0 c.loop-node.invariant

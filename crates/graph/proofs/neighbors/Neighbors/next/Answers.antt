@@ -1,6 +1,5 @@
-use Rattle.std.proofs.Common.{◌≡◌, ◌<◌, ◌≤◌, ◌∷◌, length, get_or, sym, ap, ◌∙◌, arith}
-use Rattle.records.specs.Edges.{far, no_edge}
-use Rattle.graph.specs.Cursors.{seen, coming}
+use Rattle.std.proofs.Common.{◌<◌, ◌≤◌, ◌∷◌, length, sym, ap, ◌∙◌, arith}
+use Rattle.graph.specs.Cursors.{seen}
 use Rattle.graph.specs.EdgeLists.{edges_in}
 use Rattle.graph.proofs.Following.{seen_next, far_below}
 use Rattle.graph.proofs.neighbors.Neighbors.next.Goals as goal

@@ -10,8 +10,8 @@ pub loop-number-preserved : goal.loop-number-preserved
 loop-number-preserved c =
     elim c.if-left-eq0.branch [
       | goal.then-left-eq0 w ↦ search (rules, show_more)
-      | goal.else-left-eq0+then-is-shown w ↦ search (rules, keep_more)
-      | goal.else-left-eq0+else-is-shown w ↦ search (rules, keep_more)
+      | goal.else-left-eq0+then-is_shown w ↦ search (rules, keep_more)
+      | goal.else-left-eq0+else-is_shown w ↦ search (rules, keep_more)
     ]
 
 pub returns : goal.returns

@@ -1,4 +1,4 @@
-use Rattle.std.proofs.Common.{◌≡◌, ◌≤◌, length, sym, arith}
+use Rattle.std.proofs.Common.{◌≤◌, length, sym, arith}
 use Rattle.graph.proofs.Following.{seen_first, none_seen}
 use Rattle.graph.proofs.raw.RawInstGraph.neighbors_directed.Goals as goal
 

@@ -1,4 +1,4 @@
-use Rattle.std.proofs.Common.{◌≡◌, ℕ, ◌<◌, length, take, set, sym, ap, ◌∙◌, subst, arith, rules}
+use Rattle.std.proofs.Common.{◌≡◌, ◌<◌, length, take, set, sym, ap, ◌∙◌, subst, arith, rules}
 use lib.Seq.{take-set-lt}
 use Rattle.std.proofs.lemmas.List.{get_or-take}
 use Rattle.records.specs.declared.node.NodeState.TheVariants.{Hidden, Disabled}
@@ -9,25 +9,42 @@ use Rattle.graph.proofs.Counting.{tally_put, tally_le, tally_at, counted_put}
 use Rattle.graph.proofs.Disabled.{yes_put}
 use Rattle.graph.proofs.raw.RawInstGraph.set_state.Goals as goal
 
-pub set-state-requires : goal.set-state-requires
-set-state-requires c =
+pub set_state-requires : goal.set_state-requires
+set_state-requires c =
     let g = c.args.self.now in
     let there : c.args.at < length (take g.node_count g.nodes) = omega arith in
     let h = tally_at Hidden g.node_count g.nodes c.args.at no_node c.requires.there there in
     let d = tally_at Disabled g.node_count g.nodes c.args.at no_node c.requires.there there in
     search (rules, tally_le)
 
-pub invariant-of-self : goal.invariant-of-self
-invariant-of-self c =
+pub invariant_of-self : goal.invariant_of-self
+invariant_of-self c =
     let g = c.args.self.now in
     let at = c.args.at in
-    let x = c.set-state.new.node in
+    let x = c.set_state.new.node in
     let there : at < length (take g.node_count g.nodes) = omega arith in
     let e = counted_put g.node_count g.nodes at x c.requires.there g.counted in
-    let h = tally_put Hidden g.node_count g.nodes at x no_node _ _ c.requires.there there g.hides c.set-state.ensures.hidden in
-    let d = tally_put Disabled g.node_count g.nodes at x no_node _ _ c.requires.there there g.disables c.set-state.ensures.disabled in
-    let still : g.stage ≡ Sealed → YesOrDisabled (take g.node_count (set g.nodes at x)) (take g.ordered g.reach) = λ q. subst (λ ns. YesOrDisabled ns (take g.ordered g.reach)) (sym (take-set-lt g.node_count g.nodes at x c.requires.there)) (yes_put (take g.node_count g.nodes) (take g.ordered g.reach) at x there (c.requires.keeps q ∙ sym (ap is_disabled c.set-state.ensures.node)) (g.yes_or_disabled q)) in
-    (g.few, (e, (h, (d, (g.ends, (g.order_room, (g.reach_room, (g.ordered_few, (g.unordered, (g.all_ordered, (g.within, (g.complete, (g.once, (g.topological, (still, (g.yes_goes_back, tt))))))))))))))))
+    let h = tally_put Hidden g.node_count g.nodes at x no_node _ _ c.requires.there there g.hides c.set_state.ensures.hidden in
+    let d = tally_put Disabled g.node_count g.nodes at x no_node _ _ c.requires.there there g.disables c.set_state.ensures.disabled in
+    let still : g.stage ≡ Sealed → YesOrDisabled (take g.node_count (set g.nodes at x)) (take g.ordered g.reach) = λ q. subst (λ ns. YesOrDisabled ns (take g.ordered g.reach)) (sym (take-set-lt g.node_count g.nodes at x c.requires.there)) (yes_put (take g.node_count g.nodes) (take g.ordered g.reach) at x there (c.requires.keeps q ∙ sym (ap is_disabled c.set_state.ensures.node)) (g.yes_or_disabled q)) in
+    record {
+      few = g.few;
+      counted = e;
+      hides = h;
+      disables = d;
+      ends = g.ends;
+      order_room = g.order_room;
+      reach_room = g.reach_room;
+      ordered_few = g.ordered_few;
+      unordered = g.unordered;
+      all_ordered = g.all_ordered;
+      within = g.within;
+      complete = g.complete;
+      once = g.once;
+      topological = g.topological;
+      yes_or_disabled = still;
+      yes_goes_back = g.yes_goes_back;
+    }
 
 pub returns : goal.returns
 returns c = search (rules, take-set-lt, get_or-take)

@@ -6,10 +6,15 @@ use Rattle.subgraph.proofs.places.Subgraphs.put.Goals as goal
 pub bounds-self-self : goal.bounds-self-self
 bounds-self-self c = omega (arith, length_latest 0 c.args.self.now.ordered c.args.self.now.order)
 
-pub invariant-of-self : goal.invariant-of-self
-invariant-of-self c =
+pub invariant_of-self : goal.invariant_of-self
+invariant_of-self c =
     let s = c.args.self.now in
-    (length-set s.order s.ordered c.args.node ∙ s.order_room, (omega (arith, length_latest 0 s.ordered s.order), (s.count_fits, (omega (arith, s.parts_first), tt))))
+    record {
+      order_room = length-set s.order s.ordered c.args.node ∙ s.order_room;
+      order_fits = omega (arith, length_latest 0 s.ordered s.order);
+      count_fits = s.count_fits;
+      parts_first = omega (arith, s.parts_first);
+    }
 
 pub returns : goal.returns
 returns c =

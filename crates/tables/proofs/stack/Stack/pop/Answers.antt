@@ -1,4 +1,4 @@
-use Rattle.std.proofs.Common.{arith, rules}
+use Rattle.std.proofs.Common.{arith}
 use Rattle.tables.proofs.LatestLaws.{latest_pop}
 use Rattle.tables.proofs.stack.Stack.pop.Goals as goal
 

@@ -5,8 +5,8 @@ use Rattle.tables.proofs.stack.Stack.push.Goals as goal
 pub bounds-self-self : goal.bounds-self-self
 bounds-self-self c = omega (arith, length_latest 0 c.args.self.now.height c.args.self.now.items)
 
-pub invariant-of-self : goal.invariant-of-self
-invariant-of-self c = (omega (arith, length_latest 0 c.args.self.now.height c.args.self.now.items), tt)
+pub invariant_of-self : goal.invariant_of-self
+invariant_of-self c = record { fits = omega (arith, length_latest 0 c.args.self.now.height c.args.self.now.items) }
 
 pub returns : goal.returns
 returns c =

@@ -21,10 +21,10 @@ returns c =
     let counted = g.counted in
     let fits = fits_new N (omega arith) in
     let p = ap (noted v) c.new.ensures in
-    let direct = coming m.edges c.neighbors-directed.result in
-    let is : to_come m (record { direction = d; direct = c.neighbors-directed.result; stack = c.new.result; visited = v }) ≡ enabled_neighbours d m n =
+    let direct = coming m.edges c.neighbors_directed.result in
+    let is : to_come m (record { direction = d; direct = c.neighbors_directed.result; stack = c.new.result; visited = v }) ≡ enabled_neighbours d m n =
     ap (λ q. gone_through (sees d m) (is_off m) (pops N q) (filter (may_reach m) direct) q) p
-    ∙ ap (λ ms. gone_through (sees d m) (is_off m) (pops N (noted v [])) (filter (may_reach m) ms) (noted v [])) c.neighbors-directed.ensures
+    ∙ ap (λ ms. gone_through (sees d m) (is_off m) (pops N (noted v [])) (filter (may_reach m) ms) (noted v [])) c.neighbors_directed.ensures
     ∙ ap (λ k. gone_through (sees d m) (is_off m) k (filter (may_reach m) (sees d m n)) (noted v [])) fits.1 in
     record {
       coming = is;

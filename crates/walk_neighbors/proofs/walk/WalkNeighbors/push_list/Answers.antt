@@ -23,5 +23,5 @@ returns c =
     let n = c.args.node in
     let w = c.args.self.now in
     let inv = c.loop-other.invariant in
-    let got = gone_past m n w c.loop-other.self (coming m.edges c.neighbors-directed-list.result) (coming m.edges c.loop-other.list) c.requires.fit (sees_below g w.direction n) c.requires.off c.neighbors-directed-list.ensures c.in-default.ensures.steps.0 inv.0 inv.2 inv.3 in
+    let got = gone_past m n w c.loop-other.self (coming m.edges c.neighbors_directed-list.result) (coming m.edges c.loop-other.list) c.requires.fit (sees_below g w.direction n) c.requires.off c.neighbors_directed-list.ensures c.in_default.ensures.steps.0 inv.0 inv.2 inv.3 in
     record { onward = got.0; left = got.1; fit = inv.1 }

@@ -1,12 +1,12 @@
 -- What a node sees along its edges is what they join it with.
-use Rattle.std.proofs.Common.{◌≡◌, ℕ, ◌<◌, Bool, true, false, eqb, ◌⊎◌, List, [], ◌∷◌, length, get_or, sym, refl, ap, ◌∙◌, subst, inl, inr, ⊎_elim}
-use Rattle.std.proofs.lemmas.Bool.{cases_Bool, eqb-true, eq-eqb}
+use Rattle.std.proofs.Common.{◌≡◌, ℕ, ◌<◌, Bool, true, false, eqb, List, [], ◌∷◌, length, get_or, sym, refl, ap, ◌∙◌, subst, inl, inr}
+use Rattle.std.proofs.lemmas.Bool.{eqb-true, eq-eqb}
 use Rattle.records.specs.declared.edge.Edge.{Edge}
 use Rattle.records.specs.declared.edge.Direction.{Direction}
 use Rattle.records.specs.declared.edge.Direction.TheVariants.{Outgoing, Incoming}
 use Rattle.records.specs.Edges.{no_edge, history, near, far, add_if, neighbours}
 use Rattle.records.specs.Walks.{Among, Joins}
-use Rattle.records.proofs.Listed.{among_reverse, among_reversed, get_or_among, among_get_or}
+use Rattle.graph.proofs.Standings.{among_reverse, among_reversed, get_or_among, among_get_or}
 
 -- an edge of a list, seen from one of its ends
 pub record Seen (d : Direction) (es : List Edge) (n k : ℕ) : Type 0 where

@@ -3,7 +3,7 @@ use Rattle.std.proofs.Common.{◌≡◌, ℕ, zero, suc, ◌+◌, ◌-◌, ◌<�
 use Rattle.std.proofs.lemmas.List.FromFn.{fill_by_all, get_or-map-range_with_len}
 use Rattle.records.specs.declared.node.Node.{Node}
 use Rattle.records.specs.Nodes.{no_node}
-use Rattle.records.specs.Rule.{Meaning, ruled, Obeys, Solves, worth, value_table}
+use Rattle.analysis.specs.Rule.{Meaning, ruled, Obeys, Solves, worth, value_table}
 
 -- P of each item of a list
 abbrev pub Each : {X : Type 0} → (X → Type 0) → List X → Type 0

@@ -1,3 +1,0 @@
-// Why a view keeps every route.
-pub mod laws;
-pub mod worked;
