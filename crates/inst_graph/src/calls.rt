@@ -118,8 +118,8 @@ impl InstGraph {
         table: &mut [A::Value],
     ) -> Result<(), Refusal>
         ensures answer { result ≡ run_answer (length table.old) (held self.now) }
-        ensures values { table.new ≡ run_table (meaning analysis.now) forward skips (held self.now) table.old }
-        ensures only { result ≡ Ok tt → Solves (meaning analysis.now) (held self.now).nodes (near_of forward skips (held self.now)) (take (length (held self.now).nodes) table.new) }
+        ensures values { table.new ≡ run_table (A.meaning analysis.now) A.forward A.skips (held self.now) table.old }
+        ensures only { result ≡ Ok tt → Solves (A.meaning analysis.now) (held self.now).nodes (near_of A.forward A.skips (held self.now)) (take (length (held self.now).nodes) table.new) }
     {
         topo_analysis(&self.raw, analysis, table)
     }

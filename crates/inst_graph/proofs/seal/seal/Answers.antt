@@ -23,8 +23,8 @@ returns-in_err-parts c =
     let work = c.args.work.now in
     let was = c.in_err-parts.ensures in
     let e = c.in_err-parts.field-0.0 in
-    let r = c.from-residual-in_err-parts.result in
-    let is = err_is r e c.from-residual-in_err-parts.ensures.1 in
+    let r = c.from_residual-in_err-parts.result in
+    let is = err_is r e c.from_residual-in_err-parts.ensures.1 in
     let adm = c.in_ok-admit.ensures ∙ ap of_open c.stage.ensures in
     let whole = ap (λ x. outcome x (model g)) is ∙ refused_whole g work adm e was.answer in
     record {
