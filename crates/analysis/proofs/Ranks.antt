@@ -1,14 +1,13 @@
 -- In a topological order each neighbour of a node has a lower rank.
-use Rattle.std.proofs.Common.{◌≡◌, ℕ, zero, suc, ◌+◌, ◌-◌, ◌<◌, ◌≤◌, Bool, true, false, cond, eqb, List, [], ◌∷◌, length, get_or, set, replicate, filter, sym, refl, ap, ◌∙◌, subst, inl, inr, arith}
+use Rattle.std.proofs.Common.{◌≡◌, ℕ, zero, suc, ◌-◌, ◌<◌, Bool, true, false, cond, eqb, List, [], ◌∷◌, length, get_or, set, replicate, filter, refl, subst, inl, inr, arith}
 use Rattle.std.proofs.lemmas.Bool.{eqb-true}
 use Rattle.records.specs.declared.edge.Edge.{Edge}
 use Rattle.records.specs.declared.edge.Direction.{Direction}
-use Rattle.records.specs.declared.edge.Direction.TheVariants.{Outgoing, Incoming}
 use Rattle.records.specs.Edges.{no_edge, history, near, far, add_if, neighbours}
 use Rattle.records.specs.Walks.{Among}
 use Rattle.graph.specs.Model.{Model}
 use Rattle.graph.specs.Order.{stands_at, Ends, Within, Complete, Once, Topological}
-use Rattle.graph.proofs.Standings.{among_reversed, among_get_or, stands_read}
+use Rattle.graph.proofs.Standings.{among_reversed, among_get_or}
 use Rattle.walk_neighbors.specs.PastDisabled.{Noted, noted, push, push_all, drained, gone_through, sees, is_off, may_reach, enabled_neighbours}
 use Rattle.analysis.specs.Near.{looking_along, near_of}
 use Rattle.analysis.proofs.Unique.{Each, each_map, Lower}

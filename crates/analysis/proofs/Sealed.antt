@@ -1,5 +1,5 @@
 -- A sealed graph's order is one for runs.
-use Rattle.std.proofs.Common.{◌≡◌, ℕ, ◌≤◌, length, take, sym, refl, ap, ◌∙◌, subst, arith}
+use Rattle.std.proofs.Common.{◌≡◌, ◌≤◌, length, sym, ◌∙◌, subst, arith}
 use Rattle.std.proofs.lemmas.List.{length-take-le}
 use Rattle.records.specs.declared.stage.Stage.TheVariants.{Sealed}
 use Rattle.graph.specs.declared.raw.RawInstGraph.{RawInstGraph}

@@ -1,5 +1,5 @@
 -- What the reach analysis leaves in a work table, and what is left once it is blank again.
-use Rattle.std.proofs.Common.{◌≡◌, ℕ, ◌-◌, ◌≤◌, Bool, true, false, ltb, List, ◌++◌, length, take, drop, replicate, Ok, Err, sym, ap, ◌∙◌, subst, arith, take_at, drop_at}
+use Rattle.std.proofs.Common.{◌≡◌, ℕ, ◌-◌, ◌≤◌, Bool, false, ltb, List, ◌++◌, length, take, drop, replicate, Ok, Err, ap, ◌∙◌, arith, take_at, drop_at}
 use Rattle.std.proofs.lemmas.List.FromFn.{length-map-range_with_len}
 use Rattle.std.proofs.lemmas.Bool.{le-ltb, cond-false}
 use Rattle.records.specs.declared.refusal.Refusal.TheVariants.{TableTooShort}

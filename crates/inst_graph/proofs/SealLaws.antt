@@ -1,5 +1,5 @@
 -- Sealing, from what its steps leave.
-use Rattle.std.proofs.Common.{◌≡◌, ℕ, ◌+◌, ◌-◌, ◌<◌, ◌≤◌, Bool, true, false, cond, ltb, ◌⊎◌, List, ◌++◌, map, length, get_or, take, drop, replicate, None, Ok, Err, Option, Result, sym, refl, ap, ◌∙◌, subst, inl, inr, ⊎_elim, arith, get_or-take, drop_at}
+use Rattle.std.proofs.Common.{◌≡◌, ℕ, ◌<◌, ◌≤◌, Bool, false, ltb, List, ◌++◌, length, get_or, take, drop, replicate, None, Ok, Err, Option, Result, sym, refl, ap, ◌∙◌, subst, inl, inr, ⊎_elim, arith, get_or-take, drop_at}
 use lib.ListN.{length-replicate}
 use Rattle.std.proofs.lemmas.List.FromFn.{length-map-range_with_len, get_or-map-range_with_len}
 use Rattle.std.proofs.lemmas.List.{get_or_past, get_or-map, length-map}
@@ -19,7 +19,7 @@ use Rattle.records.specs.Walks.{Touched, Joins}
 use Rattle.tables.specs.Filled.{filled}
 use Rattle.graph.specs.declared.raw.RawInstGraph.{RawInstGraph}
 use Rattle.graph.specs.Model.{Model, Outcome, outcome, admitted, model, unless_refused}
-use Rattle.graph.specs.Order.{Ends, Within, Complete, Once, Topological}
+use Rattle.graph.specs.Order.{Within, Complete, Once, Topological}
 use Rattle.graph.specs.Sealing.{in_place, with_places, sealed_in, with_reach}
 use Rattle.walks.specs.Cycles.{acyclic_answer, checked, left_blank, Tested}
 use Rattle.walks.proofs.Checking.{tested}

@@ -1,9 +1,9 @@
 -- What a reach table tells, as the graph's type asks for it.
-use Rattle.std.proofs.Common.{◌≡◌, ℕ, ◌<◌, Bool, true, false, not, ◌||◌, ◌⊎◌, List, [], ◌∷◌, length, get_or, refl, ap, subst, inl, inr, ⊎_elim}
+use Rattle.std.proofs.Common.{◌≡◌, ℕ, Bool, true, false, not, ◌||◌, List, [], ◌∷◌, length, get_or, refl, ap, subst, inl, inr, ⊎_elim}
 use Rattle.std.proofs.lemmas.Bool.{cases_Bool}
 use Rattle.records.specs.Edges.{no_edge}
 use Rattle.records.specs.Nodes.{is_disabled}
-use Rattle.records.specs.Walks.{Leads, Joins}
+use Rattle.records.specs.Walks.{Joins}
 use Rattle.graph.specs.Model.{Model}
 use Rattle.graph.specs.Adding.{node_at}
 use Rattle.graph.specs.Order.{Ends}

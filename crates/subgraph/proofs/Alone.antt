@@ -1,5 +1,5 @@
 -- Adding the nodes without edges, one after another.
-use Rattle.std.proofs.Common.{◌≡◌, ℕ, ◌+◌, ◌<◌, ◌≤◌, Bool, true, false, List, [], ◌∷◌, ◌++◌, length, sym, refl, ap, ◌∙◌, append_assoc, arith, length-take-le}
+use Rattle.std.proofs.Common.{◌≡◌, ℕ, ◌+◌, ◌<◌, ◌≤◌, true, false, List, [], ◌∷◌, ◌++◌, length, sym, ap, ◌∙◌, append_assoc, arith, length-take-le}
 use Rattle.std.proofs.lemmas.List.{length-append}
 use Rattle.records.specs.declared.edge.Edge.{Edge}
 use Rattle.subgraph.specs.declared.places.Subgraphs.{Subgraphs}

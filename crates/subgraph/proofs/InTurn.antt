@@ -1,5 +1,5 @@
 -- Orders that stand apart, one after another.
-use Rattle.std.proofs.Common.{ℕ, ◌⊎◌, List, [], ◌∷◌, ◌++◌, refl, inl, inr, ⊎_elim}
+use Rattle.std.proofs.Common.{ℕ, List, [], ◌∷◌, ◌++◌, refl, inl, inr, ⊎_elim}
 use Rattle.records.specs.Walks.{Among}
 use Rattle.subgraph.specs.Orders.{Ordered}
 use Rattle.subgraph.specs.Places.{in_turn}

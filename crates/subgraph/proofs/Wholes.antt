@@ -12,7 +12,7 @@ use Rattle.subgraph.specs.Orders.{Ordered, is_empty}
 use Rattle.subgraph.specs.Wholes.{alone, singletons, whole_order}
 use Rattle.graph.proofs.Seen.{seen_joins, joins_seen}
 use Rattle.walks.specs.Exploring.{targets, sources}
-use Rattle.graph.proofs.Standings.{stands_here, stands_later, stands_inside, stands_left, stands_right, among_left, among_right, among_either, among_reverse, among_reversed, get_or_among, once_append, once_one, once_cons, order_length}
+use Rattle.graph.proofs.Standings.{stands_here, stands_inside, stands_left, stands_right, among_left, among_right, among_either, among_reverse, among_reversed, get_or_among, once_append, once_one, once_cons, order_length}
 
 turned : (n : ℕ) (before : List ℕ) → reverse (n ∷ before) ≡ reverse before ++ n ∷ []
 turned n before = reverse-append (n ∷ []) before

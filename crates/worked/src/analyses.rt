@@ -18,7 +18,7 @@ impl TopoAnalysis for AfterDisabled {
 
     ghost skips = { false };
 
-    ghost meaning = { λ _. record { blank = false; start = λ n node. is_disabled node; join = λ so-far n node k neighbour value. so-far || value; close = λ so-far n node. so-far } };
+    ghost meaning = { λ _. record { blank = false; start = λ n node. is_disabled node; join = λ so_far n node k neighbour value. so_far || value; close = λ so_far n node. so_far } };
 
     fn forward() -> bool {
         true
@@ -63,7 +63,7 @@ impl TopoAnalysis for Constant {
 
     ghost skips = { true };
 
-    ghost meaning = { λ c. record { blank = 0; start = λ n node. c.0; join = λ so-far n node k neighbour value. so-far; close = λ so-far n node. so-far } };
+    ghost meaning = { λ c. record { blank = 0; start = λ n node. c.0; join = λ so_far n node k neighbour value. so_far; close = λ so_far n node. so_far } };
 
     fn forward() -> bool {
         false

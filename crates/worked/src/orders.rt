@@ -41,17 +41,20 @@ fn subgraphs_first_and_then_the_nodes_without_edges(rt: HostRuntime) -> Result<(
     assert_eq!(rt; parts.count, 2);
     assert_eq!(rt; parts.in_subgraphs(), [3u16, 1, 4, 5].as_slice());
     assert_eq!(rt; parts.singletons(), [0u16, 2].as_slice());
-    assert_eq!(rt; parts.places[0], None);
+    let of_singleton = parts.places[0];
+    assert_eq!(rt; of_singleton, None);
     let first = Place {
         subgraph: 0,
         position: 1,
     };
-    assert_eq!(rt; parts.places[1], Some(first));
+    let of_second_node = parts.places[1];
+    assert_eq!(rt; of_second_node, Some(first));
     let second = Place {
         subgraph: 1,
         position: 0,
     };
-    assert_eq!(rt; parts.places[4], Some(second));
+    let of_first_node = parts.places[4];
+    assert_eq!(rt; of_first_node, Some(second));
     Ok(())
 }
 

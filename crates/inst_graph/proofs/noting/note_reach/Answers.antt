@@ -1,10 +1,9 @@
-use Rattle.std.proofs.Common.{◌≡◌, ◌-◌, false, length, take, sym, refl, ap, ◌∙◌, subst}
+use Rattle.std.proofs.Common.{◌-◌, false, length, take, sym, refl, ap, ◌∙◌, subst}
 use Rattle.tables.specs.Filled.{filled}
 use Rattle.graph.specs.Model.{Model, model}
 use Rattle.graph.specs.Order.{Ends}
 use Rattle.graph.specs.Sealing.{with_reach}
 use Rattle.reconnect.specs.Reach.{is_enabled, TellsReach}
-use Rattle.inst_graph.specs.Reached.{reach_table}
 use Rattle.inst_graph.proofs.Yes.{yes_or_disabled, yes_goes_back}
 use Rattle.inst_graph.proofs.Noted.{cut, run_done, front, blank_again, length_reach}
 use Rattle.inst_graph.proofs.noting.note_reach.Goals as goal

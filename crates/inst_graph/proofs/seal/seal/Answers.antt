@@ -1,8 +1,8 @@
-use Rattle.std.proofs.Common.{◌≡◌, ℕ, length, take, IsErrAnd, IfOk, Ok, Err, Result, sym, refl, ap, ◌∙◌, subst, arith}
+use Rattle.std.proofs.Common.{◌≡◌, ℕ, length, take, IsErrAnd, IfOk, Ok, Err, Result, ap, ◌∙◌, arith}
 use Rattle.records.specs.declared.refusal.Refusal.{Refusal}
 use Rattle.records.specs.Stages.{of_open}
-use Rattle.graph.specs.Model.{Model, model, outcome}
-use Rattle.inst_graph.specs.Seals.{seal, seal_table, WellSealed, RefusedWell}
+use Rattle.graph.specs.Model.{model, outcome}
+use Rattle.inst_graph.specs.Seals.{WellSealed}
 use Rattle.inst_graph.proofs.SealLaws.{refusals, refused_whole, refused_table, sealed_whole, sealed_table, sealed_well}
 use Rattle.inst_graph.proofs.Noted.{cut}
 use Rattle.graph.specs.Sealing.{sealed_in}

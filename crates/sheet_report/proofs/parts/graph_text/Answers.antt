@@ -1,4 +1,4 @@
-use Rattle.std.proofs.Common.{◌≡◌, ◌++◌, ap, ◌∙◌}
+use Rattle.std.proofs.Common.{◌++◌, ap, ◌∙◌}
 use Rattle.graph.specs.Model.{model}
 use Rattle.sheet_report.specs.Texts.{summary_text}
 use Rattle.sheet_report.specs.Reports.{parts_of}

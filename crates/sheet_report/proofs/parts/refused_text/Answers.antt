@@ -1,5 +1,5 @@
 use Rattle.std.proofs.Common.{◌≡◌, ℕ, ◌++◌, IfOk, string_bytes, codes, decimal, subst}
-use Rattle.records.specs.Refusals.{number, detail}
+use Rattle.records.specs.Refusals.{detail}
 use Rattle.sheet_report.proofs.parts.refused_text.Goals as goal
 
 pub returns : goal.returns

@@ -1,5 +1,4 @@
-use Rattle.std.proofs.Common.{◌≡◌, length, ap, ◌∙◌}
-use Rattle.records.specs.declared.node.NodeKind.{NodeKind}
+use Rattle.std.proofs.Common.{length, ap, ◌∙◌}
 use Rattle.records.specs.declared.node.NodeKind.TheVariants.{Instantiation, ENode, GivenEquality, TransEquality, Proof, Cdcl}
 use Rattle.graph.specs.declared.stats.GraphStats.{GraphStats}
 use Rattle.sheet_report.specs.Summaries.{of_kind}

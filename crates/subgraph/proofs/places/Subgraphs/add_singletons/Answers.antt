@@ -1,4 +1,4 @@
-use Rattle.std.proofs.Common.{◌≡◌, ◌<◌, length, sym, ap, ◌∙◌, arith}
+use Rattle.std.proofs.Common.{◌<◌, length, sym, ap, ◌∙◌, arith}
 use Rattle.graph.specs.Model.{model}
 use Rattle.subgraph.specs.declared.places.Subgraphs.{Subgraphs}
 use Rattle.subgraph.specs.Subgraphs.{in_order}

@@ -1,8 +1,4 @@
-use Rattle.std.proofs.Common.{◌≡◌, ◌++◌, filter}
-use Rattle.std.specs.List.{range_with_len}
 use Rattle.graph.specs.Model.{model}
-use Rattle.subgraph.specs.Wholes.{alone}
-use Rattle.subgraph.specs.Subgraphs.{in_order}
 use Rattle.subgraph.proofs.Alone.{Added}
 use Rattle.subgraph.proofs.places.Subgraphs.add_singletons.Given as goal
 
