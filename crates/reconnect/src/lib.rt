@@ -1,4 +1,5 @@
-// From which nodes shown nodes, or nodes that are not disabled, can be reached.
+// The analyses of which a view is made: what can be reached, and the strands of a source.
 #![tactic(auto)]
 
 pub mod reach;
+pub mod strands;

@@ -4,3 +4,4 @@ pub mod Refusals
 pub mod SheetRefusals
 pub mod Stages
 pub mod Walks
+pub mod Strands

@@ -1,4 +1,4 @@
-// The plain records of a trace graph: nodes, edges, stages, and the refusals with their numbers.
+// The plain records of a trace graph: nodes, edges, strands, stages, and the refusals with their numbers.
 #![tactic(auto)]
 
 pub mod edge;
@@ -6,3 +6,4 @@ pub mod node;
 pub mod refusal;
 pub mod sheet_refusal;
 pub mod stage;
+pub mod strand;

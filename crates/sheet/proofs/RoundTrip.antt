@@ -1,6 +1,6 @@
 -- The sheet of a graph is read as that graph.
 use Rattle.std.proofs.Common.{◌≡◌, ℕ, ◌+◌, ◌*◌, ◌^◌, ◌<◌, ◌≤◌, cond, eqb, ltb, List, [], ◌∷◌, ◌++◌, length, drop, Ok, Err, Result, sym, refl, ap, ◌∙◌, arith, rules}
-use Rattle.std.specs.List.{flat_map, AllByRecursion as All}
+use Rattle.std.specs.List.{flat_map, AllByRecursion}
 use Rattle.std.proofs.lemmas.List.{drop_at, append_assoc, append-nil, length-append, length_push}
 use Rattle.std.proofs.lemmas.Bool.{le-ltb, cond-false, cond-true, eq-eqb}
 use Rattle.records.specs.declared.edge.Edge.{Edge}
@@ -18,7 +18,7 @@ use Rattle.sheet.proofs.ByteLaws.{two_back, four_back}
 use Rattle.sheet.proofs.RowLaws.{row_back, edge_row_back}
 use Rattle.sheet.proofs.RowsAdded.{with_row, with_rows, with_edge, node_added_lem, edge_added_lem}
 
-nodes_back : (ns : List Node) (pre post : List ℕ) (m : Model) → m.stage ≡ Open → length m.nodes + length ns ≤ 1024 → All Plain ns → nodes_read (length ns) (length pre) (pre ++ (flat_map node_bytes ns ++ post)) m ≡ Ok (with_rows (m.nodes ++ ns) ns m)
+nodes_back : (ns : List Node) (pre post : List ℕ) (m : Model) → m.stage ≡ Open → length m.nodes + length ns ≤ 1024 → AllByRecursion Plain ns → nodes_read (length ns) (length pre) (pre ++ (flat_map node_bytes ns ++ post)) m ≡ Ok (with_rows (m.nodes ++ ns) ns m)
 nodes_back [] pre post m o h a = let e = append-nil m.nodes in rw e
 nodes_back (n ∷ ns) pre post m o h (plain, a) =
     let bs = pre ++ ((node_bytes n ++ flat_map node_bytes ns) ++ post) in
@@ -35,7 +35,7 @@ nodes_back (n ∷ ns) pre post m o h (plain, a) =
     let moved : nodes_read (length ns) (length pre + 6) bs (with_row n m) ≡ Ok (with_rows ((m.nodes ++ n ∷ []) ++ ns) (n ∷ ns) m) = rw (on, same) at rest in
     first ∙ moved ∙ ap (λ xs. Ok (with_rows xs (n ∷ ns) m)) (append_assoc m.nodes (n ∷ []) ns)
 
-edges_back : (es : List Edge) (pre : List ℕ) (m : Model) → m.stage ≡ Open → length m.edges + length es ≤ 4096 → All (Inside (length m.nodes)) es → edges_read (length es) (length pre) (pre ++ flat_map edge_bytes es) m ≡ Ok (with_edges (m.edges ++ es) m)
+edges_back : (es : List Edge) (pre : List ℕ) (m : Model) → m.stage ≡ Open → length m.edges + length es ≤ 4096 → AllByRecursion (Inside (length m.nodes)) es → edges_read (length es) (length pre) (pre ++ flat_map edge_bytes es) m ≡ Ok (with_edges (m.edges ++ es) m)
 edges_back [] pre m o h a = let e = append-nil m.edges in let f = append-nil pre in search rules
 edges_back (e ∷ es) pre m o h (inside, a) =
     let bs = pre ++ (edge_bytes e ++ flat_map edge_bytes es) in

@@ -1,6 +1,6 @@
 -- Bytes that are read are the sheet of the graph that they give.
 use Rattle.std.proofs.Common.{◌≡◌, ℕ, zero, suc, ◌+◌, ◌*◌, ◌<◌, ◌≤◌, true, false, cond, eqb, ltb, ◌⊎◌, List, [], ◌∷◌, ◌++◌, length, drop, Ok, Err, Result, sym, refl, ap, ◌∙◌, subst, inl, inr, arith}
-use Rattle.std.specs.List.{flat_map, AllByRecursion as All}
+use Rattle.std.specs.List.{flat_map, AllByRecursion}
 use Rattle.std.proofs.ByRecursion.{All-drop}
 use Rattle.std.proofs.lemmas.List.{append_assoc, append-nil, length_push, drop-drop, drop_all}
 use Rattle.std.proofs.lemmas.Bool.{cases_lt, cases_Bool, le-ltb, lt-ltb, cond-false, cond-true, eqb-true}
@@ -25,7 +25,7 @@ record NodesGot (k p : ℕ) (bs : List ℕ) (m m' : Model) : Type 0 where
   pub many : length ns ≡ k
   pub bytes : drop p bs ≡ flat_map node_bytes ns ++ drop (p + 6 * k) bs
   pub after : m' ≡ with_rows (m.nodes ++ ns) ns m
-  pub plain : All Plain ns
+  pub plain : AllByRecursion Plain ns
   pub few : length m.nodes + k ≤ 1024
 
 nodes_got : (k p : ℕ) (bs : List ℕ) (m m' : Model) → Bytes bs → m.stage ≡ Open → length m.nodes ≤ 1024 → nodes_read k p bs m ≡ Ok m' → NodesGot k p bs m m'
@@ -68,7 +68,7 @@ record EdgesGot (k p : ℕ) (bs : List ℕ) (m m' : Model) : Type 0 where
   pub many : length es ≡ k
   pub bytes : drop p bs ≡ flat_map edge_bytes es
   pub after : m' ≡ with_edges (m.edges ++ es) m
-  pub inside : All (Inside (length m.nodes)) es
+  pub inside : AllByRecursion (Inside (length m.nodes)) es
   pub sparse : length m.edges + k ≤ 4096
 
 edges_got : (k p : ℕ) (bs : List ℕ) (m m' : Model) → Bytes bs → m.stage ≡ Open → length m.edges ≤ 4096 → edges_read k p bs m ≡ Ok m' → EdgesGot k p bs m m'

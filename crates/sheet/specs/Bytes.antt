@@ -1,6 +1,6 @@
 -- What the bytes of a sheet stand for; numbers are big-endian.
 use Rattle.std.specs.Prelude.{ℕ, ◌+◌, ◌*◌, ◌<◌, cond, List, Some, None, Option, ◌==◌, slice_index}
-use Rattle.std.specs.List.{AllByRecursion as All}
+use Rattle.std.specs.List.{AllByRecursion}
 use Rattle.records.specs.declared.node.NodeKind.{NodeKind}
 use Rattle.records.specs.declared.node.NodeKind.TheVariants.{Instantiation, ENode, GivenEquality, TransEquality, Proof, Cdcl}
 use Rattle.records.specs.declared.node.NodeState.{NodeState}
@@ -8,7 +8,7 @@ use Rattle.records.specs.declared.node.NodeState.TheVariants.{Disabled, Hidden, 
 
 -- each number fits a byte
 abbrev pub Bytes : List ℕ → Type 0
-Bytes bs = All (λ b. b < 256) bs
+Bytes bs = AllByRecursion (λ b. b < 256) bs
 
 abbrev pub state_of : ℕ → Option NodeState
 state_of b = cond (b == 0) (Some Disabled) (cond (b == 1) (Some Hidden) (cond (b == 2) (Some Visible) None))

@@ -1,6 +1,6 @@
 -- The sheet of a graph, and the graphs that a sheet can give.
 use Rattle.std.specs.Prelude.{◌≡◌, ℕ, ◌/◌, ◌%◌, ◌^◌, ◌<◌, ◌≤◌, cond, List, [], ◌∷◌, ◌++◌, length, None, Ok}
-use Rattle.std.specs.List.{flat_map, AllByRecursion as All}
+use Rattle.std.specs.List.{flat_map, AllByRecursion}
 use Rattle.records.specs.declared.edge.Edge.{Edge}
 use Rattle.records.specs.declared.node.Node.{Node}
 use Rattle.records.specs.declared.node.NodeState.{NodeState}
@@ -56,8 +56,8 @@ pub record Given (m : Model) : Type 0 where
   pub opened : m.stage ≡ Open
   pub few : length m.nodes ≤ 1024
   pub sparse : length m.edges ≤ 4096
-  pub plain : All Plain m.nodes
-  pub inside : All (Inside (length m.nodes)) m.edges
+  pub plain : AllByRecursion Plain m.nodes
+  pub inside : AllByRecursion (Inside (length m.nodes)) m.edges
   pub risen_so : m.generation ≡ rises 0 m.nodes
   pub unordered : m.order ≡ []
   pub unreached : m.reach ≡ []

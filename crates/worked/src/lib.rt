@@ -1,5 +1,5 @@
 // Examples that are run: the graph's limits and lists, its order, neighbors past disabled nodes, sealed graphs,
-// analyses, sheets and reports.
+// analyses, strands, sheets and reports.
 #![tactic(auto)]
 
 #[cfg(test)]
@@ -16,3 +16,5 @@ mod reports;
 mod sealed;
 #[cfg(test)]
 mod sheets;
+#[cfg(test)]
+mod strands;

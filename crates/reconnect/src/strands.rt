@@ -1,0 +1,99 @@
+// The strand analysis.
+ghost use Rattle.std.specs.Prelude.{◌≡◌, true, false, length, take, Ok, slice_index_or};
+ghost use Rattle.routes.specs.Laws.{StrandsStand};
+ghost use Rattle.routes.specs.Strands.{strand_meaning};
+ghost use Rattle.graph.specs.Model.{model};
+ghost use Rattle.analysis.specs.Runs.{run_answer, run_table};
+ghost use Rattle.reconnect.specs.Graphs.{graph_in};
+
+use analysis::analysis::TopoAnalysis;
+use analysis::run::topo_analysis;
+use graph::raw::RawInstGraph;
+use records::node::Node;
+use records::refusal::Refusal;
+use records::strand::{BLANK, Strands};
+
+// What each node knows of one shown source. The yes/no table says from which nodes a shown node can be reached, no past
+// its end.
+#[derive(Clone, Copy)]
+pub struct ReconnectAnalysis<'a> {
+    pub source: usize,
+    pub live: &'a [bool],
+}
+
+impl ReconnectAnalysis<'_> {
+    fn is_live(&self, at: usize) -> bool
+        ensures { result ≡ slice_index_or self.now.live.now at false }
+    {
+        if at < self.live.len() {
+            self.live[at]
+        } else {
+            false
+        }
+    }
+}
+
+impl<'a> TopoAnalysis for ReconnectAnalysis<'a> {
+    type Value = Strands;
+
+    ghost forward = { true };
+
+    ghost skips = { false };
+
+    ghost meaning = { λ a. strand_meaning a.source a.live.now };
+
+    fn forward() -> bool
+        ensures { result ≡ true }
+    {
+        true
+    }
+
+    fn skips_disabled() -> bool
+        ensures { result ≡ false }
+    {
+        false
+    }
+
+    fn blank(&self) -> Strands {
+        BLANK
+    }
+
+    fn start(&self, _at: usize, _node: &Node) -> Strands {
+        BLANK
+    }
+
+    fn join(
+        &self,
+        so_far: Strands,
+        _at: usize,
+        node: &Node,
+        from: usize,
+        parent: &Node,
+        value: Strands,
+    ) -> Strands {
+        match (parent.visible(), node.visible()) {
+            (false, false) => so_far.extend(value, from, node.hidden()),
+            (true, false) => so_far.start(value, from == self.source, node.hidden()),
+            (false, true) => so_far.cover(value.has_strand()),
+            (true, true) => so_far.cover(value.covered),
+        }
+    }
+
+    fn close(&self, so_far: Strands, at: usize, _node: &Node) -> Strands {
+        if self.is_live(at) { so_far } else { BLANK }
+    }
+}
+
+// Works out what each node knows of one source.
+pub fn strands(
+    graph: &RawInstGraph,
+    source: usize,
+    live: &[bool],
+    table: &mut [Strands],
+) -> Result<(), Refusal>
+    ensures answer { result ≡ run_answer (length table.old) (model graph.now) }
+    ensures values { table.new ≡ run_table (strand_meaning source live.now) true false (model graph.now) table.old }
+    ensures stand { result ≡ Ok tt → StrandsStand (graph_in (model graph.now)) source (take (length (model graph.now).nodes) table.new) }
+{
+    topo_analysis(graph, &ReconnectAnalysis { source, live }, table)
+}

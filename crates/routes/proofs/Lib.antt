@@ -1,0 +1,13 @@
+pub mod Lists
+pub mod Edges
+pub mod Ranks
+pub mod Steps
+pub mod Settled
+pub mod Solved
+pub mod Reached
+pub mod Threads
+pub mod Rows
+pub mod Cover
+pub mod Routes
+pub mod Own
+pub mod Walking

@@ -1,0 +1,8 @@
+pub mod Lists
+pub mod Graph
+pub mod Reach
+pub mod Strands
+pub mod View
+pub mod Laws
+pub mod Worked
+pub mod Misread
