@@ -1,5 +1,6 @@
-use Rattle.std.proofs.Common.{false, length, sym, refl, ap, ◌∙◌, arith}
+use Rattle.std.proofs.Common.{◌≡◌, false, length, sym, refl, arith, rules}
 use Rattle.tables.specs.Filled.{filled}
+use Rattle.graph.specs.Model.{model}
 use Rattle.walks.proofs.Seeing.{few_nodes}
 use Rattle.subgraph.proofs.WorkTable.{found_room, unfound, unappended, answer, table}
 use Rattle.subgraph.proofs.partition.connected_parts.Goals as goal
@@ -16,8 +17,7 @@ pub fill-requires : goal.fill-requires
 fill-requires c =
     let t = c.in_ok-check_acyclic.ensures in
     let room = found_room c.args.graph.now c.args.work.now (sym t.answer) c.check_acyclic.new.work t.table in
-    let count = ap length c.nodes.ensures in
-    omega arith
+    grind arith
 
 pub returns : goal.returns
 returns c =
@@ -29,8 +29,9 @@ returns c =
     let a = c.partition-subgraphs.new.appended in
     let s = c.partition-subgraphs.result in
     let fl = c.partition-subgraphs.ensures.is in
+    let blank : c.fill.new.table ≡ filled (length (model g).nodes) false f = search rules in
     record {
       answer = answer g work (sym t.answer) v t.table f a s fl;
-      table = table g work (sym t.answer) v t.table f a s fl c.fill.new.table (c.fill.ensures ∙ ap (λ k. filled k false f) (ap length c.nodes.ensures));
+      table = table g work (sym t.answer) v t.table f a s fl c.fill.new.table blank;
       law = c.partition-subgraphs.ensures.law (t.law.passed.0 refl).1;
     }

@@ -12,7 +12,6 @@ returns c =
     let hidden = ap (λ (s : GraphStats). s.hidden) c.stats-stats.ensures in
     let disabled = ap (λ (s : GraphStats). s.disabled) c.stats-stats.ensures in
     let generation = ap (λ (s : GraphStats). s.generation) c.stats-stats.ensures in
-    let shown = c.visible_nodes.ensures in
     let a = c.count_kind.ensures ∙ ap (of_kind Instantiation) same in
     let b = c.count_kind-2.ensures ∙ ap (of_kind ENode) same in
     let d = c.count_kind-3.ensures ∙ ap (of_kind GivenEquality) same in
