@@ -6,13 +6,10 @@ use Rattle.records.specs.declared.stage.Stage.{Stage}
 use Rattle.records.specs.declared.stage.Stage.TheVariants.{Open, Sealed}
 use Rattle.records.specs.Stages.{of_sealed}
 use Rattle.graph.specs.Model.{Model, unless_refused}
-use Rattle.analysis.specs.Runs.{room_for, run_answer}
+use Rattle.graph.specs.Adding.{room_for}
+use Rattle.analysis.specs.Runs.{run_answer}
 
-pub is_sealed : (s : Stage) → Ok tt ≡ of_sealed s → s ≡ Sealed
-is_sealed Sealed e = refl
-is_sealed Open e = let z : ◌≡◌ {A = ℕ} 0 1 = cc in absurd (omega arith)
-
-pub has_room : (entries : ℕ) (m : Model) → Ok tt ≡ room_for entries m → length m.nodes ≤ entries
+has_room : (entries : ℕ) (m : Model) → Ok tt ≡ room_for entries m → length m.nodes ≤ entries
 has_room entries m e =
     ⊎_elim
     (λ (h : entries < length m.nodes).
@@ -20,9 +17,6 @@ has_room entries m e =
     let z : ◌≡◌ {A = ℕ} 0 1 = cc in absurd (omega arith))
     (λ (h : length m.nodes ≤ entries). h)
     (cases_lt entries (length m.nodes))
-
-pub done_answer : (entries : ℕ) (m : Model) → m.stage ≡ Sealed → Ok tt ≡ room_for entries m → run_answer entries m ≡ Ok tt
-done_answer entries m s e = ap (λ t. unless_refused (of_sealed t) (room_for entries m)) s ∙ sym e
 
 -- a run that was done had a sealed graph, and an entry for each node
 pub done_says : (entries : ℕ) (m : Model) → run_answer entries m ≡ Ok tt → (m.stage ≡ Sealed) × (length m.nodes ≤ entries)

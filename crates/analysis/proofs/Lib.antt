@@ -1,5 +1,5 @@
 pub mod Unique
+pub mod Joining
 pub mod Ranks
 pub mod Stepping
-pub mod Sealed
 pub mod Answering

@@ -1,22 +1,37 @@
 -- A run comes to each node after its neighbours, so that it finds their values worked out.
-use Rattle.std.proofs.Common.{◌≡◌, ℕ, ◌+◌, ◌-◌, ◌<◌, ◌≤◌, Bool, true, false, List, ◌++◌, length, get_or, take, drop, set, sym, ap, ◌∙◌, subst, ⊎_elim, arith}
-use Rattle.std.proofs.lemmas.List.{length-map, get_or-take, length-take-le, get_or-set_same, get_or-set_other, take-append-drop}
+use Rattle.std.proofs.Common.{◌≡◌, ℕ, ◌+◌, ◌-◌, ◌<◌, ◌≤◌, Bool, true, false, List, ◌++◌, length, get_or, take, drop, set, Option, None, Some, sym, refl, ap, ◌∙◌, subst, ⊎_elim, arith}
+use Rattle.std.proofs.lemmas.List.{length-map, length-reverse, get_or-reverse, get_or_default, get_or-take, length-take-le, get_or-set_same, get_or-set_other, take-append-drop}
 use Rattle.std.proofs.lemmas.List.FromFn.{fill_by_all, length-range_with_len}
 use Rattle.std.specs.List.{range_with_len}
 use Rattle.std.proofs.lemmas.Bool.{cases_lt, cases_eq}
 use Rattle.graph.specs.Model.{Model}
 use Rattle.graph.specs.Order.{stands_at}
+use Rattle.graph.specs.Sound.{Sound, Ordered}
 use Rattle.graph.proofs.Standings.{stands_read}
 use Rattle.analysis.specs.Near.{near_of}
 use Rattle.analysis.specs.Rule.{Meaning, ruled, Solves, worth, value_table}
-use Rattle.analysis.specs.Runs.{walk_at}
-use Rattle.analysis.proofs.Unique.{each_map, ruled_worth, value_solves}
-use Rattle.analysis.proofs.Ranks.{Runnable, rank, near_lower, rank_low}
+use Rattle.analysis.specs.Runs.{walk}
+use Rattle.walk_neighbors.proofs.Each.{each_map}
+use Rattle.std.specs.Iterator.{AlwaysYields, Yields}
+use Rattle.analysis.proofs.Joining.{turn, at_end}
+use Rattle.analysis.proofs.Unique.{ruled_worth, value_solves}
+use Rattle.analysis.proofs.Ranks.{rank, near_lower, rank_low}
 
-module _ (m : Model) (fine : Runnable m) where
+-- the node that a run comes to at step i
+abbrev pub walk_at : Bool → List ℕ → ℕ → ℕ
+walk_at forward order i = get_or (walk forward order) i 0
+
+against : (order : List ℕ) (i : ℕ) → i < length order → walk_at false order i ≡ get_or order (length order - 1 - i) 0
+against order i h = get_or-reverse order i 0 h
+
+pub length_walk : (forward : Bool) (order : List ℕ) → length (walk forward order) ≡ length order
+length_walk true order = refl
+length_walk false order = length-reverse order
+
+module _ (m : Model) (good : Sound m) (fine : Ordered m) where
   pub walk_within : (forward : Bool) (i : ℕ) → i < length m.nodes → walk_at forward m.order i < length m.nodes
   walk_within true i h = let l = fine.long in fine.within i (omega arith)
-  walk_within false i h = let l = fine.long in fine.within (length m.order - 1 - i) (omega arith)
+  walk_within false i h = let l = fine.long in subst (λ k. k < length m.nodes) (sym (against m.order i (omega arith))) (fine.within (length m.order - 1 - i) (omega arith))
 
   -- the run comes to n at n's rank
   walk_rank : (forward : Bool) (n : ℕ) → n < length m.nodes → walk_at forward m.order (rank forward m.order n) ≡ n
@@ -24,7 +39,7 @@ module _ (m : Model) (fine : Runnable m) where
   walk_rank false n h =
       let c = fine.complete n h in
       let back : length m.order - 1 - (length m.order - 1 - stands_at m.order n) ≡ stands_at m.order n = omega arith in
-      ap (λ i. get_or m.order i 0) back ∙ stands_read m.order n c
+      against m.order (rank false m.order n) (omega arith) ∙ ap (λ i. get_or m.order i 0) back ∙ stands_read m.order n c
 
   -- and the node at step i has rank i
   rank_walk : (forward : Bool) (i : ℕ) → i < length m.nodes → rank forward m.order (walk_at forward m.order i) ≡ i
@@ -32,7 +47,25 @@ module _ (m : Model) (fine : Runnable m) where
   rank_walk false i h =
       let l = fine.long in
       let o = fine.once (length m.order - 1 - i) (omega arith) in
+      let at = ap (stands_at m.order) (against m.order i (omega arith)) in
       omega arith
+
+  -- a turn of a loop over the walk
+  module _ (forward : Bool) {S : Type 0} (steps : S → Option ℕ → S → Type 0) (start s : S) (same : s ≡ start) (gives : AlwaysYields steps (λ k. k) start (walk forward m.order)) where
+    pub turn_at : (xs : List ℕ) (t u : S) (r : Option ℕ) (x : ℕ) → Yields steps s xs t → r ≡ Some x → steps t r u → (length xs < length m.nodes) × (x ≡ walk_at forward m.order (length xs))
+    turn_at xs t u r x y is step =
+        let at = turn steps start s same (walk forward m.order) gives xs t u r x y is step in
+        let long = length_walk forward m.order in
+        let all = fine.long in
+        (omega (arith, at.0), at.1 ∙ get_or_default (walk forward m.order) (length xs) x 0 at.0)
+
+    pub node_low : (xs : List ℕ) (t u : S) (r : Option ℕ) (x : ℕ) → Yields steps s xs t → r ≡ Some x → steps t r u → x < length m.nodes
+    node_low xs t u r x y is step =
+        let at = turn_at xs t u r x y is step in
+        subst (λ k. k < length m.nodes) (sym at.1) (walk_within forward (length xs) at.0)
+
+    pub all_walked : (xs : List ℕ) (t u : S) (r : Option ℕ) → Yields steps s xs t → r ≡ None → steps t r u → length xs ≡ length m.nodes
+    all_walked xs t u r y is step = ap length (at_end steps start s same (walk forward m.order) gives xs t u r y is step) ∙ length_walk forward m.order ∙ fine.long
 
   module _ {V : Type 0} (a : Meaning V) (forward skips : Bool) where
     abbrev near : ℕ → List ℕ
@@ -42,7 +75,7 @@ module _ (m : Model) (fine : Runnable m) where
     value = worth a m.nodes near (length m.nodes)
 
     pub value_table_solves : Solves a m.nodes near (value_table a m.nodes near)
-    value_table_solves = value_solves a m.nodes near (rank forward m.order) (near_lower m fine forward skips) (rank_low m fine forward)
+    value_table_solves = value_solves a m.nodes near (rank forward m.order) (near_lower m good fine forward skips) (rank_low m good fine forward)
 
     pub length_values : length (value_table a m.nodes near) ≡ length m.nodes
     length_values = length-map (range_with_len 0 (length m.nodes)) value ∙ length-range_with_len 0 (length m.nodes)
@@ -55,11 +88,11 @@ module _ (m : Model) (fine : Runnable m) where
     step_value : (i : ℕ) (table : List V) → i < length m.nodes → Done i table → ruled a m.nodes near (λ k. get_or table k a.blank) (walk_at forward m.order i) ≡ value (walk_at forward m.order i)
     step_value i table h done =
         let here = rank_walk forward i h in
-        ruled_worth a m.nodes near (rank forward m.order) (near_lower m fine forward skips) table (walk_at forward m.order i)
+        ruled_worth a m.nodes near (rank forward m.order) (near_lower m good fine forward skips) table (walk_at forward m.order i)
         (omega arith)
         (each_map _ _ (near (walk_at forward m.order i))
         (λ k l. subst (λ n. get_or table n a.blank ≡ value n) (walk_rank forward k l.0) (done (rank forward m.order k) (omega (arith, l.1))))
-        (near_lower m fine forward skips (walk_at forward m.order i)))
+        (near_lower m good fine forward skips (walk_at forward m.order i)))
 
     pub done_more : (i : ℕ) (table : List V) (x : V) → i < length m.nodes → walk_at forward m.order i < length table → x ≡ ruled a m.nodes near (λ k. get_or table k a.blank) (walk_at forward m.order i) → Done i table → Done (i + 1) (set table (walk_at forward m.order i) x)
     done_more i table x h within is done j l =
@@ -78,7 +111,7 @@ module _ (m : Model) (fine : Runnable m) where
         (length-take-le (length m.nodes) table l)
         (λ k h.
         get_or-take (length m.nodes) table k a.blank h
-        ∙ subst (λ n. get_or table n a.blank ≡ value n) (walk_rank forward k h) (done (rank forward m.order k) (rank_low m fine forward k h)))
+        ∙ subst (λ n. get_or table n a.blank ≡ value n) (walk_rank forward k h) (done (rank forward m.order k) (rank_low m good fine forward k h)))
 
     -- all steps done, the table holds the value table and what lay past it
     pub done_all : (before table : List V) → length m.nodes ≤ length table → drop (length m.nodes) table ≡ drop (length m.nodes) before → Done (length m.nodes) table → table ≡ value_table a m.nodes near ++ drop (length m.nodes) before

@@ -3,16 +3,8 @@ use Rattle.std.proofs.Common.{◌≡◌, ℕ, zero, suc, ◌<◌, List, [], ◌�
 use Rattle.std.proofs.lemmas.List.FromFn.{fill_by_all, get_or-map-range_with_len}
 use Rattle.records.specs.declared.node.Node.{Node}
 use Rattle.records.specs.Nodes.{no_node}
+use Rattle.walk_neighbors.proofs.Each.{Each, each_map}
 use Rattle.analysis.specs.Rule.{Meaning, ruled, Obeys, Solves, worth, value_table}
-
--- P of each item of a list
-abbrev pub Each : {X : Type 0} → (X → Type 0) → List X → Type 0
-Each P [] = Unit {0}
-Each P (x ∷ xs) = P x × Each P xs
-
-pub each_map : {X : Type 0} (P Q : X → Type 0) (xs : List X) → ((x : X) → P x → Q x) → Each P xs → Each Q xs
-each_map P Q [] f a = tt
-each_map P Q (x ∷ xs) f a = (f x a.0, each_map P Q xs f a.1)
 
 pub folded_same : {X V : Type 0} (f g : V → X → V) (v : V) (xs : List X) → Each (λ x. (w : V) → f w x ≡ g w x) xs → fold f v xs ≡ fold g v xs
 folded_same f g v [] a = refl

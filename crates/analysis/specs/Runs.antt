@@ -1,21 +1,21 @@
 -- What a run answers and leaves.
-use Rattle.std.specs.Prelude.{ℕ, ◌-◌, Bool, true, false, cond, List, ◌++◌, length, drop, Ok, Err, Result, nat_lt, slice_index}
+use Rattle.std.specs.Prelude.{ℕ, Bool, true, false, List, ◌++◌, reverse, length, drop, Ok, Err, Result, slice_index_or}
 use Rattle.records.specs.declared.refusal.Refusal.{Refusal}
-use Rattle.records.specs.declared.refusal.Refusal.TheVariants.{TableTooShort}
 use Rattle.records.specs.declared.stage.Call.TheVariants.{TopoAnalysis}
 use Rattle.records.specs.Stages.{admission}
 use Rattle.graph.specs.Model.{Model, unless_refused}
+use Rattle.graph.specs.Adding.{room_for}
 use Rattle.analysis.specs.Near.{near_of}
-use Rattle.analysis.specs.Rule.{Meaning, value_table}
+use Rattle.analysis.specs.Rule.{Meaning, ruled, value_table}
 
--- the node that a run comes to at step i: along the order, or against it
-abbrev pub walk_at : Bool → List ℕ → ℕ → ℕ
-walk_at true order i = slice_index order i
-walk_at false order i = slice_index order (length order - 1 - i)
+-- the nodes in the order in which a run comes to them: along a graph's order, or against it
+abbrev pub walk : Bool → List ℕ → List ℕ
+walk true order = order
+walk false order = reverse order
 
--- a table has an entry for each node
-abbrev pub room_for : ℕ → Model → Result (Unit {0}) Refusal
-room_for entries m = cond (nat_lt entries (length m.nodes)) (Err (TableTooShort (length m.nodes))) (Ok tt)
+-- the value of node n by the rule, from the values in a table
+abbrev pub value_from : {V : Type 0} → Meaning V → Bool → Bool → Model → List V → ℕ → V
+value_from a forward skips m table n = ruled a m.nodes (near_of forward skips m) (λ k. slice_index_or table k a.blank) n
 
 abbrev pub run_answer : ℕ → Model → Result (Unit {0}) Refusal
 run_answer entries m = unless_refused (admission m.stage TopoAnalysis) (room_for entries m)

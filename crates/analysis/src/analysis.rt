@@ -4,24 +4,40 @@ ghost use Rattle.analysis.specs.Rule.{Meaning};
 
 use records::node::Node;
 
+// How a run goes through a graph. In the Rust these are two const parameters of the analysis; a trait with a `bool` one
+// cannot be stated yet, and an impl with a lifetime cannot give a constant, so a type of its own has them.
+pub trait Course {
+    // Whether a node's neighbours are the sources of its edges, and not the targets.
+    const FORWARD: bool;
+
+    // Whether disabled nodes are passed over.
+    const SKIP_DISABLED: bool;
+
+    ghost FORWARD: { Bool };
+
+    ghost SKIP_DISABLED: { Bool };
+}
+
+pub struct Going<const FORWARD: bool, const SKIP_DISABLED: bool>;
+
+impl<const F: bool, const S: bool> Course for Going<F, S> {
+    const FORWARD: bool = F;
+
+    const SKIP_DISABLED: bool = S;
+
+    ghost FORWARD = { F };
+
+    ghost SKIP_DISABLED = { S };
+}
+
 // Works out a value for each node from the values of its neighbours.
 pub trait TopoAnalysis {
     type Value: Copy;
 
-    // Whether a node's neighbours are the sources of its edges, and not the targets.
-    ghost forward: { Bool };
-
-    // Whether disabled nodes are passed over.
-    ghost skips: { Bool };
+    type Course: Course;
 
     // What the functions below mean, for the analysis as it stands.
     ghost meaning: { Self → Meaning Self.Value };
-
-    fn forward() -> bool
-        ensures { result ≡ forward };
-
-    fn skips_disabled() -> bool
-        ensures { result ≡ skips };
 
     fn blank(&self) -> Self::Value
         ensures { result ≡ (meaning self.now).blank };

@@ -2,5 +2,5 @@
 #![tactic(auto)]
 
 pub mod analysis;
-pub mod cursor;
 pub mod run;
+mod values;

@@ -1,13 +1,14 @@
 pub mod Chains
 pub mod Counting
-pub mod Bounds
 pub mod Stages
 pub mod Disabled
-pub mod Added
+pub mod Writing
 pub mod Turns
 pub mod Following
 pub mod Turning
 pub mod Keeping
 pub mod Standings
 pub mod Seen
+pub mod Sound
 pub mod Placing
+pub mod Sealed

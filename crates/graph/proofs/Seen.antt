@@ -1,6 +1,7 @@
 -- What a node sees along its edges is what they join it with.
-use Rattle.std.proofs.Common.{◌≡◌, ℕ, ◌<◌, Bool, true, false, eqb, List, [], ◌∷◌, length, get_or, sym, refl, ap, ◌∙◌, subst, inl, inr}
-use Rattle.std.proofs.lemmas.Bool.{eqb-true, eq-eqb}
+use Rattle.std.proofs.Common.{◌≡◌, ℕ, ◌<◌, Bool, true, false, eqb, List, [], ◌∷◌, length, get_or, sym, refl, ap, ◌∙◌, subst, inl, inr, arith}
+use Rattle.std.proofs.lemmas.Bool.{eqb-true}
+use Rattle.std.proofs.lemmas.Grind.{common_steps}
 use Rattle.records.specs.declared.edge.Edge.{Edge}
 use Rattle.records.specs.declared.edge.Direction.{Direction}
 use Rattle.records.specs.declared.edge.Direction.TheVariants.{Outgoing, Incoming}
@@ -29,12 +30,7 @@ seen_edge d (e ∷ es) n k m = here (λ r. later (seen_edge d es n k r)) (eqb (n
 
 pub edge_seen : (d : Direction) (es : List Edge) (n : ℕ) (x : Edge) → Among x es → near d x ≡ n → Among (far d x) (neighbours d es n)
 edge_seen d [] n x m e = absurd m
-edge_seen d (y ∷ ys) n x (inl q) e =
-    let test : eqb (near d y) n ≡ true = eq-eqb (near d y) n (sym (ap (near d) q) ∙ e) in
-    subst (λ b. Among (far d x) (add_if b (far d y) (neighbours d ys n))) (sym test) (inl (ap (far d) q))
-edge_seen d (y ∷ ys) n x (inr m) e =
-    let rest = edge_seen d ys n x m e in
-    elim (eqb (near d y) n) as (λ b. Among (far d x) (add_if b (far d y) (neighbours d ys n))) [ true ↦ inr rest | false ↦ rest ]
+edge_seen d (y ∷ ys) n x m e = grind (arith, common_steps, edge_seen d ys n x)
 
 -- an edge from one node to another, along a direction
 abbrev pub Along : Direction → List Edge → ℕ → ℕ → Type 0

@@ -1,7 +1,8 @@
 -- Where the elements of a list stand.
 use Rattle.std.proofs.Common.{◌≡◌, ℕ, zero, suc, ◌+◌, ◌-◌, ◌<◌, ◌≤◌, cond, eqb, ◌⊎◌, List, [], ◌∷◌, ◌++◌, reverse, length, get_or, sym, refl, ap, ◌∙◌, subst, inl, inr, ⊎_elim, suc-le-suc, arith}
 use Rattle.std.proofs.lemmas.List.{get_or_append_left, get_or-append_right, length-append, reverse-append}
-use Rattle.std.proofs.lemmas.Bool.{cases_eq, cases_lt, eq-eqb, ne_eqb, cond-true, cond-false}
+use Rattle.std.proofs.lemmas.Bool.{cases_lt, eq-eqb, ne_eqb, cond-true, cond-false}
+use Rattle.std.proofs.lemmas.Grind.{common_steps}
 use Rattle.records.specs.Walks.{Among}
 use Rattle.graph.specs.Order.{stands_at, Within, Complete, Once}
 
@@ -13,15 +14,7 @@ stands_later x xs n e = cond-false (eqb x n) 0 (suc (stands_at xs n)) (ne_eqb x 
 
 pub stands_inside : (xs : List ℕ) (n : ℕ) → Among n xs → stands_at xs n < length xs
 stands_inside [] n m = absurd m
-stands_inside (x ∷ xs) n m =
-    ⊎_elim
-    (λ (e : x ≡ n). let h = stands_here x xs n e in omega arith)
-    (λ (ne : x ≡ n → ⊥). let h = stands_later x xs n ne in let rest = stands_inside xs n (later x xs n ne m) in omega arith)
-    (cases_eq x n)
-  where
-    later : (x : ℕ) (xs : List ℕ) (n : ℕ) → (x ≡ n → ⊥) → (n ≡ x) ⊎ Among n xs → Among n xs
-    later x xs n ne (inl e) = absurd (ne (sym e))
-    later x xs n ne (inr m) = m
+stands_inside (x ∷ xs) n m = grind (arith, common_steps, stands_inside xs n)
 
 pub among_left : {A : Type 0} (n : A) (xs ys : List A) → Among n xs → Among n (xs ++ ys)
 among_left n [] ys m = absurd m
@@ -34,8 +27,7 @@ among_right n (x ∷ xs) ys m = inr (among_right n xs ys m)
 
 pub among_either : {A : Type 0} (n : A) (xs ys : List A) → Among n (xs ++ ys) → Among n xs ⊎ Among n ys
 among_either n [] ys m = inr m
-among_either n (x ∷ xs) ys (inl e) = inl (inl e)
-among_either n (x ∷ xs) ys (inr m) = ⊎_elim (λ (l : Among n xs). inl (inr l)) (λ (r : Among n ys). inr r) (among_either n xs ys m)
+among_either n (x ∷ xs) ys m = grind (arith, common_steps, among_either n xs ys)
 
 pub among_reverse : {A : Type 0} (n : A) (xs : List A) → Among n xs → Among n (reverse xs)
 among_reverse n [] m = m
@@ -44,11 +36,7 @@ among_reverse n (x ∷ xs) (inr k) = subst (Among n) (sym (reverse-append (x ∷
 
 pub among_reversed : {A : Type 0} (n : A) (xs : List A) → Among n (reverse xs) → Among n xs
 among_reversed n [] m = m
-among_reversed n (x ∷ xs) m = ⊎_elim (λ (l : Among n (reverse xs)). inr (among_reversed n xs l)) one (among_either n (reverse xs) (x ∷ []) (subst (Among n) (reverse-append (x ∷ []) xs) m))
-  where
-    one : Among n (x ∷ []) → Among n (x ∷ xs)
-    one (inl e) = inl e
-    one (inr k) = absurd k
+among_reversed n (x ∷ xs) m = grind (arith, common_steps, reverse-append (x ∷ []) xs, among_either n (reverse xs) (x ∷ []), among_reversed n xs)
 
 pub get_or_among : {A : Type 0} (xs : List A) (i : ℕ) (d : A) → i < length xs → Among (get_or xs i d) xs
 get_or_among [] i d h = absurd (omega arith)
@@ -62,22 +50,11 @@ among_get_or x (y ∷ ys) d (inr m) = let r = among_get_or x ys d m in (suc r.0,
 
 pub stands_left : (xs ys : List ℕ) (n : ℕ) → Among n xs → stands_at (xs ++ ys) n ≡ stands_at xs n
 stands_left [] ys n m = absurd m
-stands_left (x ∷ xs) ys n m =
-    ⊎_elim
-    (λ (e : x ≡ n). stands_here x (xs ++ ys) n e ∙ sym (stands_here x xs n e))
-    (λ (ne : x ≡ n → ⊥). stands_later x (xs ++ ys) n ne ∙ ap suc (stands_left xs ys n (rest ne m)) ∙ sym (stands_later x xs n ne))
-    (cases_eq x n)
-  where
-    rest : (x ≡ n → ⊥) → (n ≡ x) ⊎ Among n xs → Among n xs
-    rest ne (inl e) = absurd (ne (sym e))
-    rest ne (inr k) = k
+stands_left (x ∷ xs) ys n m = grind (arith, common_steps, stands_left xs ys n)
 
 pub stands_right : (xs ys : List ℕ) (n : ℕ) → (Among n xs → ⊥) → stands_at (xs ++ ys) n ≡ length xs + stands_at ys n
 stands_right [] ys n out = omega arith
-stands_right (x ∷ xs) ys n out =
-    let first = stands_later x (xs ++ ys) n (λ e. out (inl (sym e))) in
-    let rest = stands_right xs ys n (λ m. out (inr m)) in
-    omega arith
+stands_right (x ∷ xs) ys n out = grind (arith, common_steps, stands_right xs ys n)
 
 -- two lists in each of which no number stands twice, and that share none
 pub once_append : (xs ys : List ℕ) → Once xs → Once ys → ((n : ℕ) → Among n xs → Among n ys → ⊥) → Once (xs ++ ys)
@@ -108,11 +85,7 @@ once_cons x xs out o (suc i) h =
 
 pub stands_read : (xs : List ℕ) (n : ℕ) → stands_at xs n < length xs → get_or xs (stands_at xs n) 0 ≡ n
 stands_read [] n h = absurd (omega arith)
-stands_read (x ∷ xs) n h =
-    ⊎_elim
-    (λ (e : x ≡ n). ap (λ i. get_or (x ∷ xs) i 0) (stands_here x xs n e) ∙ e)
-    (λ (ne : x ≡ n → ⊥). let s = stands_later x xs n ne in ap (λ i. get_or (x ∷ xs) i 0) s ∙ stands_read xs n (omega arith))
-    (cases_eq x n)
+stands_read (x ∷ xs) n h = grind (arith, common_steps, stands_read xs n)
 
 -- numbers below m that go to different numbers below n are no more than those
 pub fewer : (n m : ℕ) (f : ℕ → ℕ) → ((i : ℕ) → i < m → f i < n) → ((i j : ℕ) → i < m → j < m → f i ≡ f j → i ≡ j) → m ≤ n
@@ -123,37 +96,11 @@ fewer (suc n) (suc m) f low same = suc-le-suc (fewer n m g g_low g_same)
     g : ℕ → ℕ
     g i = cond (eqb (f i) n) (f m) (f i)
 
-    hit : (i : ℕ) → f i ≡ n → g i ≡ f m
-    hit i e = cond-true (eqb (f i) n) (f m) (f i) (eq-eqb (f i) n e)
-
-    miss : (i : ℕ) → (f i ≡ n → ⊥) → g i ≡ f i
-    miss i e = cond-false (eqb (f i) n) (f m) (f i) (ne_eqb (f i) n e)
-
     g_low : (i : ℕ) → i < m → g i < n
-    g_low i h =
-        ⊎_elim
-        (λ (e : f i ≡ n).
-        let is = hit i e in
-        let last = low m (omega arith) in
-        let ne : f m ≡ n → ⊥ = λ q. let s = same i m (omega arith) (omega arith) (e ∙ sym q) in omega arith in
-        omega arith)
-        (λ (ne : f i ≡ n → ⊥). let is = miss i ne in let l = low i (omega arith) in omega arith)
-        (cases_eq (f i) n)
+    g_low i h = grind (arith, common_steps, low i, low m, same i m)
 
     g_same : (i j : ℕ) → i < m → j < m → g i ≡ g j → i ≡ j
-    g_same i j h k e =
-        ⊎_elim
-        (λ (p : f i ≡ n).
-        ⊎_elim
-        (λ (q : f j ≡ n). same i j (omega arith) (omega arith) (p ∙ sym q))
-        (λ (q : f j ≡ n → ⊥). let s = same m j (omega arith) (omega arith) (sym (hit i p) ∙ e ∙ miss j q) in absurd (omega arith))
-        (cases_eq (f j) n))
-        (λ (p : f i ≡ n → ⊥).
-        ⊎_elim
-        (λ (q : f j ≡ n). let s = same i m (omega arith) (omega arith) (sym (miss i p) ∙ e ∙ hit j q) in absurd (omega arith))
-        (λ (q : f j ≡ n → ⊥). same i j (omega arith) (omega arith) (sym (miss i p) ∙ e ∙ miss j q))
-        (cases_eq (f j) n))
-        (cases_eq (f i) n)
+    g_same i j h k e = grind (arith, common_steps, same i j, same i m, same m j)
 
 -- an order that has each of the first n numbers once has n entries
 pub order_length : (n : ℕ) (xs : List ℕ) → Within n xs → Complete n xs → Once xs → length xs ≡ n

@@ -1,48 +1,31 @@
--- The steps of a loop that takes a list of numbers in turn.
-use Rattle.std.proofs.Common.{◌≡◌, ℕ, zero, suc, ◌+◌, ◌-◌, ◌<◌, ◌≤◌, Bool, true, false, cond, ◌||◌, List, [], ◌∷◌, length, get_or, drop, sym, refl, ap, ◌∙◌, subst, sub-one, arith}
-use Rattle.std.proofs.lemmas.List.{at_drop_more, at_drop_all}
+-- Numbers that are shown or hidden in turn, one more at the end.
+use Rattle.std.proofs.Common.{◌≡◌, ℕ, Bool, true, false, ◌||◌, List, [], ◌∷◌, ◌++◌, Option, sym, refl, ap, ◌∙◌}
+use Rattle.std.proofs.lemmas.List.{map-id}
+use Rattle.std.proofs.lemmas.Iterator.{YieldsList, items_from_drains}
+use Rattle.std.specs.Iterator.{Drains}
 use Rattle.records.specs.declared.node.Visibility.{Visibility}
 use Rattle.graph.specs.Model.{Model}
-use Rattle.graph.specs.Adding.{node_at}
-use Rattle.graph.specs.Hiding.{Change, idle, show, show_in_turn, and_then, after_shown, keep_first}
-use Rattle.records.specs.Nodes.{is_shown}
-use Rattle.records.specs.declared.node.Visibility.TheVariants as visibility
+use Rattle.graph.specs.Hiding.{Change, change, idle, show, show_in_turn, and_then}
 
--- a change after which b is remembered too
-abbrev pub also : Bool → Change → Change
-also b c = record { changed = b || c.changed; after = c.after }
+then_idle : (c : Change) → and_then c idle ≡ c
+then_idle c = ap (λ b. change b c.after) (elim c.changed as (λ b. b || false ≡ b) [ true ↦ refl | false ↦ refl ])
 
-pub also_idle : (b : Bool) (m : Model) → also b (idle m) ≡ record { changed = b; after = m }
-also_idle true m = refl
-also_idle false m = refl
+then_then : (c : Change) (f g : Model → Change) → and_then c (λ m. and_then (f m) g) ≡ and_then (and_then c f) g
+then_then c f g = let d = f c.after in let e = g d.after in ap (λ b. change b e.after) (elim c.changed as (λ b. b || (d.changed || e.changed) ≡ (b || d.changed) || e.changed) [ true ↦ refl | false ↦ refl ])
 
-pub also_then : (b : Bool) (c : Change) (f : Model → Change) → also b (and_then c f) ≡ also (b || c.changed) (f c.after)
-also_then true c f = refl
-also_then false c f = refl
+show_push : (v : Visibility) (ns : List ℕ) (n : ℕ) (m : Model) → show_in_turn v (ns ++ n ∷ []) m ≡ and_then (show_in_turn v ns m) (show v n)
+show_push v [] n m = then_idle (show v n m)
+show_push v (k ∷ ns) n m =
+    let c = show v k m in
+    ap (λ (d : Change). change (c.changed || d.changed) d.after) (show_push v ns n c.after) ∙ then_then c (show_in_turn v ns) (show v n)
 
-module _ (v : Visibility) (ns : List ℕ) (i : ℕ) (b : Bool) (m : Model) where
-  pub show_more : i < length ns → also b (show_in_turn v (drop i ns) m) ≡ also (b || (show v (get_or ns i 0) m).changed) (show_in_turn v (drop (i + 1) ns) (show v (get_or ns i 0) m).after)
-  show_more h = ap (also b) (at_drop_more (λ xs. show_in_turn v xs m) ns i 0 h) ∙ also_then b (show v (get_or ns i 0) m) (show_in_turn v (drop (i + 1) ns))
+pub show_one_more : (v : Visibility) (ns : List ℕ) (n : ℕ) (m m₁ m₂ : Model) (b r : Bool) → change b m₁ ≡ show_in_turn v ns m → change r m₂ ≡ show v n m₁ → change (b || r) m₂ ≡ show_in_turn v (ns ++ n ∷ []) m
+show_one_more v ns n m m₁ m₂ b r e f = ap (λ (d : Change). change (b || d.changed) d.after) f ∙ ap (λ c. and_then c (show v n)) e ∙ sym (show_push v ns n m)
 
-  pub show_all_lem : length ns ≤ i → also b (show_in_turn v (drop i ns) m) ≡ record { changed = b; after = m }
-  show_all_lem h = ap (also b) (at_drop_all (λ xs. show_in_turn v xs m) ns i h) ∙ also_idle b m
+-- what an iterator has given, once it has given all
+drained : {S : Type 0} {steps : S → Option ℕ → S → Type 0} {s : S} {all : List ℕ} → (ns : List ℕ) → Drains steps s ns → YieldsList steps (λ x. x) s all → ns ≡ all
+drained ns (u, (t, given, end)) h = sym (map-id ns) ∙ items_from_drains ns (t, given, λ _. (u, end)) h
 
-module _ (k : ℕ) (ns : List ℕ) (i : ℕ) (b : Bool) (m : Model) where
-  passed_none : (j : ℕ) → after_shown j [] m ≡ []
-  passed_none zero = refl
-  passed_none (suc j) = refl
-
-  pub keep_all : length ns ≤ i → also b (keep_first k (drop i ns) m) ≡ record { changed = b; after = m }
-  keep_all h = ap (λ xs. also b (show_in_turn visibility.Hidden xs m)) (at_drop_all (λ xs. after_shown k xs m) ns i h ∙ passed_none k) ∙ also_idle b m
-
-  pub keep_more : 0 < k → i < length ns → keep_first k (drop i ns) m ≡ cond (is_shown (node_at m (get_or ns i 0))) (keep_first (k - 1) (drop (i + 1) ns) m) (keep_first k (drop (i + 1) ns) m)
-  keep_more p h = at_drop_more (λ xs. keep_first k xs m) ns i 0 h ∙ go k p (is_shown (node_at m (get_or ns i 0))) refl
-    where
-      go : (j : ℕ) → 0 < j → (s : Bool) → is_shown (node_at m (get_or ns i 0)) ≡ s → keep_first j (get_or ns i 0 ∷ drop (i + 1) ns) m ≡ cond (is_shown (node_at m (get_or ns i 0))) (keep_first (j - 1) (drop (i + 1) ns) m) (keep_first j (drop (i + 1) ns) m)
-      go zero q s e = absurd (omega arith)
-      go (suc j) q true e = rw (sub-one (suc j), e)
-      go (suc j) q false e = rw (sub-one (suc j), e)
-
--- what holds of a change holds of the answer and the graph that it came to
-pub as_left : (P : Bool → Model → Type 0) (c : Change) (b : Bool) (m : Model) → b ≡ c.changed → m ≡ c.after → P c.changed c.after → P b m
-as_left P c b m e f h = subst (λ x. P x m) (sym e) (subst (P c.changed) (sym f) h)
+-- the numbers that an iterator gives are shown in turn
+pub all_in_turn : {S : Type 0} {steps : S → Option ℕ → S → Type 0} {s : S} (v : Visibility) (all : List ℕ) (m : Model) (c : Change) → (ns : List ℕ) × Drains steps s ns × (c ≡ show_in_turn v ns m) → YieldsList steps (λ x. x) s all → c ≡ show_in_turn v all m
+all_in_turn v all m c (ns, given, is) h = is ∙ ap (λ xs. show_in_turn v xs m) (drained ns given h)

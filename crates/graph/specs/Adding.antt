@@ -4,7 +4,7 @@ use Rattle.records.specs.declared.node.Node.{Node}
 use Rattle.records.specs.declared.node.NodeKind.{NodeKind}
 use Rattle.records.specs.declared.node.NodeState.TheVariants.{Disabled, Hidden}
 use Rattle.records.specs.declared.refusal.Refusal.{Refusal}
-use Rattle.records.specs.declared.refusal.Refusal.TheVariants.{NodesFull, EdgesFull, UnknownNode}
+use Rattle.records.specs.declared.refusal.Refusal.TheVariants.{NodesFull, EdgesFull, UnknownNode, TableTooShort}
 use Rattle.records.specs.declared.stage.Call.TheVariants.{AddNode, AddEdge}
 use Rattle.records.specs.Nodes.{fresh, no_node}
 use Rattle.records.specs.Edges.{edge}
@@ -23,6 +23,10 @@ add_node kind item m =
 
 abbrev pub known : ℕ → Model → Result (Unit {0}) Refusal
 known n m = cond (nat_lt n (length m.nodes)) (Ok tt) (Err (UnknownNode n))
+
+-- a table has an entry for each node
+abbrev pub room_for : ℕ → Model → Result (Unit {0}) Refusal
+room_for entries m = cond (nat_lt entries (length m.nodes)) (Err (TableTooShort (length m.nodes))) (Ok tt)
 
 -- the source is tested before the target
 abbrev pub add_edge : ℕ → ℕ → Model → Outcome ℕ

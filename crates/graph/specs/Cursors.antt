@@ -3,6 +3,7 @@ use Rattle.std.specs.Prelude.{ℕ, suc, cond, List, [], length, take, Some, None
 use Rattle.records.specs.declared.edge.Edge.{Edge}
 use Rattle.records.specs.declared.edge.Direction.{Direction}
 use Rattle.records.specs.Edges.{no_edge, history, near, neighbours}
+use Rattle.graph.specs.EdgeLists.{edges_in}
 use Rattle.graph.specs.declared.neighbors.Neighbors.{Neighbors}
 
 -- what is seen from edge e on: the neighbours, over e and the older edges, of the node at which e stands
@@ -10,6 +11,6 @@ abbrev pub seen : Direction → List Edge → Option ℕ → List ℕ
 seen d es None = []
 seen d es (Some e) = cond (nat_lt e (length es)) (neighbours d (history (take (suc e) es)) (near d (slice_index_or es e no_edge))) []
 
--- what is still to come in a graph with these edges
-abbrev pub coming : List Edge → Neighbors → List ℕ
-coming es c = seen c.direction es c.edge
+-- what is still to come
+abbrev pub coming : Neighbors → List ℕ
+coming c = seen c.direction (edges_in c.edges.now) c.edge

@@ -1,6 +1,6 @@
 -- Disabling, showing and hiding nodes.
-use Rattle.std.specs.Prelude.{◌≡◌, ℕ, zero, suc, Bool, false, cond, not, ◌||◌, ltb, List, [], ◌∷◌, length, Ok, Err, Result, nat_lt, slice_set}
-use Rattle.std.specs.List.{prefix_len, range_with_len}
+use Rattle.std.specs.Prelude.{◌≡◌, ℕ, zero, suc, Bool, false, cond, not, ◌||◌, List, [], ◌∷◌, length, Ok, Err, Result, Some, None, Option, nat_le, slice_set}
+use Rattle.std.specs.List.{position, range_with_len}
 use Rattle.records.specs.declared.node.NodeKind.{NodeKind}
 use Rattle.records.specs.declared.node.NodeState.{NodeState}
 use Rattle.records.specs.declared.node.NodeState.TheVariants.{Disabled}
@@ -21,6 +21,9 @@ pub record Change : Type 0 where
   pub changed : Bool
   pub after : Model
 
+abbrev pub change : Bool → Model → Change
+change b m = record { changed = b; after = m }
+
 -- node n is in the state, and the generation has risen if it was not so before
 abbrev pub put : ℕ → NodeState → Model → Change
 put n s m =
@@ -35,7 +38,7 @@ abbrev pub Keeps : ℕ → NodeState → Model → Type 0
 Keeps n s m = m.stage ≡ Sealed → is_disabled (node_at m n) ≡ same_state s Disabled
 
 abbrev pub idle : Model → Change
-idle m = record { changed = false; after = m }
+idle m = change false m
 
 -- a disabled node stays so and answers no
 abbrev pub show : Visibility → ℕ → Model → Change
@@ -65,12 +68,14 @@ after_shown (suc k) (n ∷ ns) m = cond (is_shown (node_at m n)) (after_shown k 
 abbrev pub keep_first : ℕ → List ℕ → Model → Change
 keep_first k ns m = show_in_turn visibility.Hidden (after_shown k ns m) m
 
--- how many numbers stand before the first that names no node
-abbrev pub first_bad : List ℕ → Model → ℕ
-first_bad ns m = prefix_len (λ n. ltb n (length m.nodes)) ns
+-- none where no place is told, else a refusal that tells the place
+abbrev pub unknown_at : Option ℕ → Result (Unit {0}) Refusal
+unknown_at None = Ok tt
+unknown_at (Some k) = Err (UnknownNode k)
 
+-- the first place at which a number stands that names no node
 abbrev pub all_known : List ℕ → Model → Result (Unit {0}) Refusal
-all_known ns m = cond (nat_lt (first_bad ns m) (length ns)) (Err (UnknownNode (first_bad ns m))) (Ok tt)
+all_known ns m = unknown_at (position (λ n. nat_le (length m.nodes) n) ns)
 
 abbrev pub told : Change → Outcome Bool
 told c = done c.changed c.after

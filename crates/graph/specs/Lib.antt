@@ -3,9 +3,11 @@ pub mod EdgeLists
 pub mod Tallies
 pub mod Order
 pub mod Reach
+pub mod Ordered
 pub mod Model
 pub mod Adding
 pub mod Hiding
 pub mod Cursors
 pub mod HidingLaws
 pub mod Sealing
+pub mod Sound

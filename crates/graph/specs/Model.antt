@@ -1,11 +1,12 @@
 -- A graph as its lists, and the outcome of a call on it.
-use Rattle.std.specs.Prelude.{ℕ, Bool, List, [], take, Ok, Err, Result}
+use Rattle.std.specs.Prelude.{ℕ, Bool, List, [], Some, None, Option, Ok, Err, Result}
 use Rattle.records.specs.declared.edge.Edge.{Edge}
 use Rattle.records.specs.declared.node.Node.{Node}
 use Rattle.records.specs.declared.refusal.Refusal.{Refusal}
 use Rattle.records.specs.declared.stage.Stage.{Stage}
-use Rattle.records.specs.declared.stage.Stage.TheVariants.{Open}
+use Rattle.records.specs.declared.stage.Stage.TheVariants.{Open, Sealed}
 use Rattle.graph.specs.declared.raw.RawInstGraph.{RawInstGraph}
+use Rattle.graph.specs.declared.raw.Sealing.{Sealing}
 use Rattle.graph.specs.EdgeLists.{edges_in}
 
 -- nodes and edges in the order of adding; order and reach are empty until the graph is sealed
@@ -17,15 +18,27 @@ pub record Model : Type 0 where
   pub order : List ℕ
   pub reach : List Bool
 
+abbrev pub stage_of : Option Sealing → Stage
+stage_of None = Open
+stage_of (Some s) = Sealed
+
+abbrev pub order_of : Option Sealing → List ℕ
+order_of None = []
+order_of (Some s) = s.order.items
+
+abbrev pub reach_of : Option Sealing → List Bool
+reach_of None = []
+reach_of (Some s) = s.reach.items
+
 abbrev pub model : RawInstGraph → Model
 model g =
     record {
-      stage = g.stage;
-      nodes = take g.node_count g.nodes;
+      stage = stage_of g.sealing;
+      nodes = g.nodes.items;
       edges = edges_in g.edges;
       generation = g.stats.generation;
-      order = take g.ordered g.order;
-      reach = take g.ordered g.reach;
+      order = order_of g.sealing;
+      reach = reach_of g.sealing;
     }
 
 abbrev pub empty : Model

@@ -1,19 +1,15 @@
 -- What sealing writes into a graph.
-use Rattle.std.specs.Prelude.{ℕ, Bool, true, List, map, length, replicate, None, Option, slice_index_or, slice_set}
+use Rattle.std.specs.Prelude.{ℕ, Bool, true, List, map, length, replicate, None, Option, slice_index_or}
 use Rattle.std.specs.List.{range_with_len}
 use Rattle.records.specs.declared.node.Node.{Node}
 use Rattle.records.specs.declared.node.Place.{Place}
 use Rattle.records.specs.declared.stage.Stage.TheVariants.{Sealed}
 use Rattle.records.specs.Nodes.{no_node}
-use Rattle.graph.specs.Adding.{node_at}
-use Rattle.graph.specs.Model.{Model, with_nodes}
+use Rattle.graph.specs.Model.{Model}
 
 -- the node at another place
 abbrev pub in_place : Option Place → Node → Node
 in_place p n = record { state = n.state; kind = n.kind; item = n.item; place = p }
-
-abbrev pub put_place : ℕ → Option Place → Model → Model
-put_place n p m = with_nodes (slice_set m.nodes n (in_place p (node_at m n))) m
 
 -- each node with its place
 abbrev pub with_places : List (Option Place) → List Node → List Node

@@ -1,74 +1,66 @@
 // What sealing writes into the graph.
-ghost use Rattle.std.specs.Prelude.{◌≡◌, ◌<◌, ◌≤◌, length, take};
-ghost use Rattle.graph.specs.Model.{model, with_nodes};
+ghost use Rattle.std.specs.Prelude.{◌≡◌, ◌≤◌, true, length, replicate};
+ghost use Rattle.graph.specs.Model.{model};
 ghost use Rattle.graph.specs.Order.{Within, Complete, Once, Topological};
 ghost use Rattle.records.specs.declared.stage.Stage.TheVariants.{Sealed};
 ghost use Rattle.graph.specs.Reach.{YesOrDisabled, YesGoesBack};
-ghost use Rattle.graph.specs.Sealing.{put_place, with_places, sealed_in, with_reach};
+ghost use Rattle.graph.specs.Sealing.{with_places, sealed_in, with_reach};
 
-use crate::raw::RawInstGraph;
-use records::node::Place;
-use records::stage::Stage;
+use crate::raw::{MAX_NODES, RawInstGraph, Sealing};
+use arrayvec::ArrayVec;
+use records::node::{Node, Place};
 
-impl RawInstGraph {
-    // Gives a node its place.
-    fn put_place(&mut self, at: usize, place: Option<Place>)
-        requires there { at < self.old.node_count }
-        ensures after { model self.new ≡ put_place at place (model self.old) }
-        ensures count { self.new.node_count ≡ self.old.node_count }
+impl Sealing {
+    // Every node counts as one from which a node that is not disabled can be reached.
+    fn new(order: &[u16]) -> Self
+        requires { length order.now ≤ 1024 }
+        ensures order { result.order.items ≡ order.now }
+        ensures reach { result.reach.items ≡ replicate (length order.now) true }
     {
-        self.nodes[at].place = place;
-    }
-
-    // Gives each node its place.
-    fn put_places(&mut self, places: &[Option<Place>])
-        requires room { self.old.node_count ≤ length places.now }
-        ensures after { model self.new ≡ with_nodes (with_places places.now (model self.old).nodes) (model self.old) }
-        ensures count { self.new.node_count ≡ self.old.node_count }
-    {
-        for at in 0..self.node_count {
-            self.put_place(at, places[at]);
+        let mut reach = ArrayVec::from([true; MAX_NODES]);
+        reach.truncate(order.len());
+        Sealing {
+            order: ArrayVec::try_from(order).unwrap(),
+            reach,
         }
     }
+}
 
+impl RawInstGraph {
     // Seals the graph with an order of all nodes, and gives each node its place.
     pub fn seal_in_order(&mut self, places: &[Option<Place>], order: &[u16])
-        requires places { self.old.node_count ≤ length places.now }
-        requires long { length order.now ≡ self.old.node_count }
-        requires within { Within self.old.node_count order.now }
-        requires complete { Complete self.old.node_count order.now }
+        requires places { length (model self.old).nodes ≤ length places.now }
+        requires long { length order.now ≡ length (model self.old).nodes }
+        requires within { Within (length (model self.old).nodes) order.now }
+        requires complete { Complete (length (model self.old).nodes) order.now }
         requires once { Once order.now }
         requires topological { Topological (model self.old).edges order.now }
         ensures { model self.new ≡ sealed_in places.now order.now (model self.old) }
     {
-        self.put_places(places);
-        self.order = copied(order, 0);
-        self.reach = [true; 1024];
-        self.ordered = self.node_count;
-        self.stage = Stage::Sealed;
+        put_places(&mut self.nodes, places);
+        self.sealing = Some(Sealing::new(order));
     }
 
     // Notes from which nodes one that is not disabled can be reached.
     pub fn put_reach(&mut self, reach: &[bool])
-        requires sealed { self.old.stage ≡ Sealed }
-        requires long { length reach.now ≡ self.old.node_count }
+        requires sealed { (model self.old).stage ≡ Sealed }
+        requires long { length reach.now ≡ length (model self.old).nodes }
         requires or_disabled { YesOrDisabled (model self.old).nodes reach.now }
         requires goes_back { YesGoesBack (model self.old).edges reach.now }
         ensures { model self.new ≡ with_reach reach.now (model self.old) }
     {
-        self.reach = copied(reach, false);
+        if let Some(sealing) = &mut self.sealing {
+            sealing.reach.copy_from_slice(reach);
+        }
     }
 }
 
-// A table that begins with a list.
-fn copied<V: Copy>(list: &[V], blank: V) -> [V; 1024]
-    requires { length list.now ≤ 1024 }
-    ensures front { take (length list.now) result ≡ list.now }
-    ensures room { length result ≡ 1024 }
+// Gives each node its place.
+fn put_places(nodes: &mut [Node], places: &[Option<Place>])
+    requires { length nodes.old ≤ length places.now }
+    ensures { nodes.new ≡ with_places places.now nodes.old }
 {
-    let mut table = [blank; 1024];
-    for i in 0..list.len() {
-        table[i] = list[i];
+    for (at, node) in nodes.iter_mut().enumerate() {
+        node.place = places[at];
     }
-    table
 }

@@ -10,7 +10,7 @@ use crate::raw::RawInstGraph;
 use records::node::{Node, NodeState};
 
 // How many nodes are hidden and disabled, and how often a state has changed.
-#[derive(Clone, Copy, PartialEq, Eq, Debug)]
+#[derive(Clone, Copy, PartialEq, Eq, Debug, Default)]
 pub struct GraphStats {
     pub hidden: u32,
     pub disabled: u32,

@@ -1,5 +1,5 @@
 -- What the reach analysis leaves in a work table, and what is left once it is blank again.
-use Rattle.std.proofs.Common.{◌≡◌, ℕ, ◌-◌, ◌≤◌, Bool, false, ltb, List, ◌++◌, length, take, drop, replicate, Ok, Err, ap, ◌∙◌, arith, take_at, drop_at}
+use Rattle.std.proofs.Common.{◌≡◌, ◌≤◌, Bool, false, ltb, List, ◌++◌, length, take, drop, replicate, Ok, Err, ap, ◌∙◌, take_at, drop_at}
 use Rattle.std.proofs.lemmas.List.FromFn.{length-map-range_with_len}
 use Rattle.std.proofs.lemmas.Bool.{le-ltb, cond-false}
 use Rattle.records.specs.declared.refusal.Refusal.TheVariants.{TableTooShort}
@@ -10,13 +10,11 @@ use Rattle.tables.specs.Filled.{filled}
 use Rattle.graph.specs.Model.{Model, unless_refused}
 use Rattle.analysis.specs.Rule.{worth}
 use Rattle.analysis.specs.Near.{near_of}
-use Rattle.analysis.specs.Runs.{room_for, run_answer, run_table, left_by}
-use Rattle.reconnect.specs.Reach.{reach_meaning, is_enabled}
+use Rattle.graph.specs.Adding.{room_for}
+use Rattle.analysis.specs.Runs.{run_answer, run_table, left_by}
+use Rattle.routes.specs.Reach.{reach_meaning}
+use Rattle.reconnect.specs.Reach.{is_enabled}
 use Rattle.inst_graph.specs.Reached.{reach_table}
-
--- the front of a table that is cut from its start
-pub cut : {V : Type 0} (count n : ℕ) (t : List V) → count ≡ n → take (count - 0) t ≡ take n t
-cut count n t e = let all : count - 0 ≡ n = omega arith in ap (λ k. take k t) all
 
 pub length_reach : (m : Model) → length (reach_table m) ≡ length m.nodes
 length_reach m = length-map-range_with_len (worth (reach_meaning is_enabled) m.nodes (near_of false false m) (length m.nodes)) 0 (length m.nodes)

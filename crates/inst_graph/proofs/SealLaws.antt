@@ -3,8 +3,7 @@ use Rattle.std.proofs.Common.{◌≡◌, ℕ, ◌<◌, ◌≤◌, Bool, false, l
 use lib.ListN.{length-replicate}
 use Rattle.std.proofs.lemmas.List.FromFn.{length-map-range_with_len, get_or-map-range_with_len}
 use Rattle.std.proofs.lemmas.List.{get_or_past, get_or-map, length-map}
-use Rattle.std.proofs.lemmas.Bool.{cases_lt, lt-ltb, le-ltb, cond-true, cond-false}
-use Rattle.records.specs.declared.edge.Edge.{Edge}
+use Rattle.std.proofs.lemmas.Bool.{cases_lt, le-ltb, cond-false}
 use Rattle.records.specs.declared.node.Node.{Node}
 use Rattle.records.specs.declared.node.Place.{Place}
 use Rattle.records.specs.declared.refusal.Refusal.{Refusal}
@@ -21,15 +20,17 @@ use Rattle.graph.specs.declared.raw.RawInstGraph.{RawInstGraph}
 use Rattle.graph.specs.Model.{Model, Outcome, outcome, admitted, model, unless_refused}
 use Rattle.graph.specs.Order.{Within, Complete, Once, Topological}
 use Rattle.graph.specs.Sealing.{in_place, with_places, sealed_in, with_reach}
-use Rattle.walks.specs.Cycles.{acyclic_answer, checked, left_blank, Tested}
-use Rattle.walks.proofs.Checking.{tested}
+use Rattle.walks.specs.Cycles.{acyclic_answer, left_blank, Tested}
+use Rattle.walks.proofs.Checking.{tested, short_answer}
 use Rattle.walks.proofs.Seeing.{edges_inside}
 use Rattle.subgraph.specs.declared.places.Subgraphs.{Subgraphs}
 use Rattle.subgraph.specs.Places.{Placed}
-use Rattle.subgraph.specs.Subgraphs.{Summary, in_order}
-use Rattle.subgraph.specs.WholePartitions.{Whole, with_singletons, whole_partition, told_whole, LawfulWhole}
+use Rattle.subgraph.specs.Subgraphs.{in_order}
+use Rattle.subgraph.specs.WholePartitions.{Whole, whole_partition, told_whole, LawfulWhole}
 use Rattle.analysis.specs.Runs.{left_by}
-use Rattle.reconnect.specs.Reach.{is_enabled, TellsReach}
+use Rattle.routes.specs.Reach.{TellsReach}
+use Rattle.reconnect.specs.Graphs.{graph_in}
+use Rattle.reconnect.specs.Reach.{is_enabled}
 use Rattle.inst_graph.specs.Reached.{reach_table}
 use Rattle.inst_graph.specs.Seals.{noted, sealed_by, seal, seal_table, places_of, WellSealed, RefusedWell}
 
@@ -52,13 +53,13 @@ placed_alike R t u same law =
     }
 
 -- a partition comes after a test that was passed
-passed_first : (es : List Edge) (n : ℕ) (a : Result (Unit {0}) Refusal) (s : Summary) (w : Whole) → Ok w ≡ with_singletons es n (unless_refused a (Ok s)) → a ≡ Ok tt
-passed_first es n (Ok x) s w q = refl
-passed_first es n (Err x) s w q = never cc
+passed_first : (a : Result (Unit {0}) Refusal) (w w' : Whole) → Ok w ≡ unless_refused a (Ok w') → a ≡ Ok tt
+passed_first (Ok x) w w' q = refl
+passed_first (Err x) w w' q = never cc
 
 -- when sealing is refused: as the test for closed walks is, on a graph that is still open
 module _ (m : Model) (room : ℕ) (law : Tested m room (acyclic_answer m room)) where
-  open_graph : (a : Result (Unit {0}) Refusal) (s : Summary) → acyclic_answer m room ≡ a → m.stage ≡ Open → RefusedWell m room (sealed_by (with_singletons m.edges (length m.nodes) (unless_refused a (Ok s))) m).answer
+  open_graph : (a : Result (Unit {0}) Refusal) (s : Whole) → acyclic_answer m room ≡ a → m.stage ≡ Open → RefusedWell m room (sealed_by (unless_refused a (Ok s)) m).answer
   open_graph (Ok x) s is at =
       record {
         closed = λ n. (λ q. never cc, λ h. let z = (law.closed n).1 (h.1, h.2) in never cc);
@@ -112,10 +113,10 @@ module _ (g : RawInstGraph) (work : List Bool) (passed : Ok tt ≡ admission (mo
   module _ (s : Subgraphs) (answer : told_whole (length (model g).nodes) (Ok s) ≡ whole_partition (model g) (length work)) (law : LawfulWhole (model g) s) where
     long_enough : N ≤ room
     long_enough =
-        let ok = passed_first m.edges N (acyclic_answer m room) _ _ answer in
+        let ok = passed_first (acyclic_answer m room) _ _ answer in
         ⊎_elim
         (λ (lt : room < N).
-        let short = cond-true (ltb room N) (Err (TableTooShort N)) (checked m.edges N N) (lt-ltb room N lt) in
+        let short = short_answer m room lt in
         never (clash (TableTooShort N) (sym short ∙ ok)))
         (λ (ge : N ≤ room). ge)
         (cases_lt room N)
@@ -170,7 +171,7 @@ module _ (g : RawInstGraph) (work : List Bool) (passed : Ok tt ≡ admission (mo
           touched_below x (y, inl j) = (edges_inside g x y j).0
           touched_below x (y, inr j) = (edges_inside g y x j).1
 
-      pub sealed_well : TellsReach is_enabled one two.reach → WellSealed (model g) two
+      pub sealed_well : TellsReach is_enabled (graph_in one) two.reach → WellSealed (model g) two
       sealed_well tells =
           let order : in_order s ≡ two.order = sym (ap (λ (q : Model). q.order) is_two) in
           record {
@@ -180,5 +181,5 @@ module _ (g : RawInstGraph) (work : List Bool) (passed : Ok tt ≡ admission (mo
             complete = subst (Complete N) order law.complete;
             once = subst Once order law.once;
             topological = subst (Topological m.edges) order law.topological;
-            tells = subst (λ q. TellsReach is_enabled q two.reach) (sym second) tells;
+            tells = subst (λ q. TellsReach is_enabled (graph_in q) two.reach) (sym second) tells;
           }

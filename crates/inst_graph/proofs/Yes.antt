@@ -8,7 +8,9 @@ use Rattle.graph.specs.Model.{Model}
 use Rattle.graph.specs.Adding.{node_at}
 use Rattle.graph.specs.Order.{Ends}
 use Rattle.graph.specs.Reach.{YesOrDisabled, YesGoesBack}
-use Rattle.reconnect.specs.Reach.{is_enabled, Reaches, TellsReach}
+use Rattle.routes.specs.Reach.{Reaches, TellsReach}
+use Rattle.reconnect.specs.Graphs.{graph_in}
+use Rattle.reconnect.specs.Reach.{is_enabled}
 
 either : (a b : Bool) → a ≡ true → a || b ≡ true
 either a b e = ap (λ x. x || b) e
@@ -17,7 +19,7 @@ or_else : (a b : Bool) → b ≡ true → a || b ≡ true
 or_else true b e = refl
 or_else false b e = e
 
-module _ (m : Model) (table : List Bool) (tells : TellsReach is_enabled m table) where
+module _ (m : Model) (table : List Bool) (tells : TellsReach is_enabled (graph_in m) table) where
   pub yes_or_disabled : YesOrDisabled m.nodes table
   yes_or_disabled n h =
       ⊎_elim
@@ -26,7 +28,7 @@ module _ (m : Model) (table : List Bool) (tells : TellsReach is_enabled m table)
       (cases_Bool (is_disabled (node_at m n)))
 
   -- what a target reaches its source reaches
-  further : (a b : ℕ) → Joins m.edges a b → Reaches is_enabled m b → Reaches is_enabled m a
+  further : (a b : ℕ) → Joins m.edges a b → Reaches is_enabled (graph_in m) b → Reaches is_enabled (graph_in m) a
   further a b j (k, h, on, inl e) = (k, h, on, inr ([], subst (Joins m.edges a) e j))
   further a b j (k, h, on, inr (ms, w)) = (k, h, on, inr (b ∷ ms, (j, w)))
 

@@ -3,7 +3,8 @@ use Rattle.std.specs.Prelude.{Bool, false, List}
 use Rattle.graph.specs.Model.{Model}
 use Rattle.analysis.specs.Rule.{value_table}
 use Rattle.analysis.specs.Near.{near_of}
-use Rattle.reconnect.specs.Reach.{reach_meaning, is_enabled}
+use Rattle.routes.specs.Reach.{reach_meaning}
+use Rattle.reconnect.specs.Reach.{is_enabled}
 
 -- the table of the analysis that tells from which nodes one that is not disabled can be reached
 abbrev pub reach_table : Model → List Bool

@@ -15,7 +15,9 @@ use Rattle.walks.specs.Cycles.{left_blank}
 use Rattle.subgraph.specs.Places.{Placed}
 use Rattle.subgraph.specs.WholePartitions.{Whole, whole_partition}
 use Rattle.analysis.specs.Runs.{left_by}
-use Rattle.reconnect.specs.Reach.{is_enabled, TellsReach}
+use Rattle.routes.specs.Reach.{TellsReach}
+use Rattle.reconnect.specs.Graphs.{graph_in}
+use Rattle.reconnect.specs.Reach.{is_enabled}
 use Rattle.inst_graph.specs.Reached.{reach_table}
 
 -- with the reach table of the graph as it stands
@@ -50,7 +52,7 @@ pub record WellSealed (before after : Model) : Type 0 where
   pub once : Once after.order
   pub topological : Topological before.edges after.order
   -- the reach table tells from which nodes one that is not disabled can be reached
-  pub tells : TellsReach is_enabled after after.reach
+  pub tells : TellsReach is_enabled (graph_in after) after.reach
 
 -- when a graph that is still open is refused, in both directions
 pub record RefusedWell (m : Model) (room : ℕ) (r : Result ℕ Refusal) : Type 0 where

@@ -10,7 +10,6 @@ ghost use Rattle.analysis.specs.Rule.{Solves};
 ghost use Rattle.analysis.specs.Runs.{run_answer, run_table};
 ghost use Rattle.sheet.specs.Reading.{sheet_read, answered, left};
 ghost use Rattle.sheet.specs.Encoding.{sheet_of, Given};
-ghost use Rattle.inst_graph.specs.Held.{held};
 ghost use Rattle.inst_graph.specs.Seals.{seal, seal_table, WellSealed, RefusedWell};
 
 use crate::inst_graph::InstGraph;
@@ -27,7 +26,7 @@ use sheet::reading::read_sheet;
 impl InstGraph {
     // An empty open graph.
     pub fn new() -> Self
-        ensures { held result ≡ empty }
+        ensures { result ≡ empty }
     {
         InstGraph {
             raw: RawInstGraph::new(),
@@ -37,48 +36,48 @@ impl InstGraph {
     // Replaces the graph by the one that a sheet gives, or by an empty one where the sheet is refused.
     pub fn read_sheet(&mut self, bytes: &[u8]) -> Result<(), SheetRefusal>
         ensures answer { result ≡ answered (sheet_read bytes.now) }
-        ensures after { held self.new ≡ left (sheet_read bytes.now) }
-        ensures exact { OnOk result ((bytes.now ≡ sheet_of (held self.new)) × Given (held self.new)) }
-        ensures whole { (m : Model) → Given m → bytes.now ≡ sheet_of m → (result ≡ Ok tt) × (held self.new ≡ m) }
+        ensures after { self.new ≡ left (sheet_read bytes.now) }
+        ensures exact { OnOk result ((bytes.now ≡ sheet_of self.new) × Given self.new) }
+        ensures whole { (m : Model) → Given m → bytes.now ≡ sheet_of m → (result ≡ Ok tt) × (self.new ≡ m) }
     {
         read_sheet(&mut self.raw, bytes)
     }
 
     // Adds a hidden node, and tells its number.
     pub fn add_node(&mut self, kind: NodeKind, item: u32) -> Result<usize, Refusal>
-        ensures { outcome result (held self.new) ≡ add_node kind item (held self.old) }
+        ensures { outcome result self.new ≡ add_node kind item self.old }
     {
         self.raw.add_node(kind, item)
     }
 
     // Adds an edge between two nodes, and tells its number.
     pub fn add_edge(&mut self, source: usize, target: usize) -> Result<usize, Refusal>
-        ensures { outcome result (held self.new) ≡ add_edge source target (held self.old) }
+        ensures { outcome result self.new ≡ add_edge source target self.old }
     {
         self.raw.add_edge(source, target)
     }
 
     // Disables a node, and tells whether that changed it.
     pub fn disable(&mut self, number: usize) -> Result<bool, Refusal>
-        ensures { outcome result (held self.new) ≡ disable number (held self.old) }
+        ensures { outcome result self.new ≡ disable number self.old }
     {
         self.raw.disable(number)
     }
 
     // Seals the graph with the help of a work table, and tells how many subgraphs it has.
     pub fn seal(&mut self, work: &mut [bool]) -> Result<usize, Refusal>
-        ensures whole { outcome result (held self.new) ≡ seal (length work.old) (held self.old) }
-        ensures table { work.new ≡ seal_table (held self.old) work.old }
-        ensures law { OnOk result (WellSealed (held self.old) (held self.new)) }
-        ensures refusals { RefusedWell (held self.old) (length work.old) result }
+        ensures whole { outcome result self.new ≡ seal (length work.old) self.old }
+        ensures table { work.new ≡ seal_table self.old work.old }
+        ensures law { OnOk result (WellSealed self.old self.new) }
+        ensures refusals { RefusedWell self.old (length work.old) result }
     {
         seal(&mut self.raw, work)
     }
 
     // Shows or hides one node, and tells whether that changed it.
     pub fn set_visibility(&mut self, number: usize, to: Visibility) -> Result<bool, Refusal>
-        ensures whole { outcome result (held self.new) ≡ set_visibility number to (held self.old) }
-        ensures law { IfOk result (λ changed. Turned to (nat_eq number) changed (held self.old) (held self.new)) }
+        ensures whole { outcome result self.new ≡ set_visibility number to self.old }
+        ensures law { IfOk result (λ changed. Turned to (nat_eq number) changed self.old self.new) }
     {
         self.raw.set_visibility(number, to)
     }
@@ -89,24 +88,24 @@ impl InstGraph {
         to: Visibility,
         numbers: &[usize],
     ) -> Result<bool, Refusal>
-        ensures whole { outcome result (held self.new) ≡ set_visibility_many to numbers.now (held self.old) }
-        ensures law { IfOk result (λ changed. Turned to (named numbers.now) changed (held self.old) (held self.new)) }
+        ensures whole { outcome result self.new ≡ set_visibility_many to numbers.now self.old }
+        ensures law { IfOk result (λ changed. Turned to (named numbers.now) changed self.old self.new) }
     {
         self.raw.set_visibility_many(to, numbers)
     }
 
     // Shows or hides every node that is not disabled, and tells whether that changed any.
     pub fn reset_visibility_to(&mut self, to: Visibility) -> Result<bool, Refusal>
-        ensures whole { outcome result (held self.new) ≡ reset_visibility_to to (held self.old) }
-        ensures law { IfOk result (λ changed. Turned to (λ _. true) changed (held self.old) (held self.new)) }
+        ensures whole { outcome result self.new ≡ reset_visibility_to to self.old }
+        ensures law { IfOk result (λ changed. Turned to (λ _. true) changed self.old self.new) }
     {
         self.raw.reset_visibility_to(to)
     }
 
     // Passes the first n entries of the list that are shown, and hides the rest of it.
     pub fn keep_first_n(&mut self, numbers: &[usize], n: usize) -> Result<bool, Refusal>
-        ensures whole { outcome result (held self.new) ≡ keep_first_n numbers.now n (held self.old) }
-        ensures law { IfOk result (λ changed. KeptFirst n numbers.now changed (held self.old) (held self.new)) }
+        ensures whole { outcome result self.new ≡ keep_first_n numbers.now n self.old }
+        ensures law { IfOk result (λ changed. KeptFirst n numbers.now changed self.old self.new) }
     {
         self.raw.keep_first_n(numbers, n)
     }
@@ -117,23 +116,23 @@ impl InstGraph {
         analysis: &A,
         table: &mut [A::Value],
     ) -> Result<(), Refusal>
-        ensures answer { result ≡ run_answer (length table.old) (held self.now) }
-        ensures values { table.new ≡ run_table (A.meaning analysis.now) A.forward A.skips (held self.now) table.old }
-        ensures only { result ≡ Ok tt → Solves (A.meaning analysis.now) (held self.now).nodes (near_of A.forward A.skips (held self.now)) (take (length (held self.now).nodes) table.new) }
+        ensures answer { result ≡ run_answer (length table.old) self.now }
+        ensures values { table.new ≡ run_table (A.meaning analysis.now) A.Course.FORWARD A.Course.SKIP_DISABLED self.now table.old }
+        ensures only { result ≡ Ok tt → Solves (A.meaning analysis.now) self.now.nodes (near_of A.Course.FORWARD A.Course.SKIP_DISABLED self.now) (take (length self.now.nodes) table.new) }
     {
         topo_analysis(&self.raw, analysis, table)
     }
 
     // A node's record.
     pub fn node(&self, number: usize) -> Result<Node, Refusal>
-        ensures { result ≡ node_record number (held self.now) }
+        ensures { result ≡ node_record number self.now }
     {
         self.raw.node(number)
     }
 
     // How many nodes are hidden and disabled, and how many changes of states there were.
     pub fn stats(&self) -> GraphStats
-        ensures { result ≡ stats_of (held self.now) }
+        ensures { result ≡ stats_of self.now }
     {
         self.raw.stats()
     }

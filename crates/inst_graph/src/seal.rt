@@ -19,7 +19,7 @@ pub(crate) fn seal(graph: &mut RawInstGraph, work: &mut [bool]) -> Result<usize,
     admit(graph.stage(), Call::Seal)?;
     let parts = subgraphs(graph, work)?;
     let count = graph.nodes().len();
-    graph.seal_in_order(&parts.places[0..count], parts.topo_node_indices());
+    graph.seal_in_order(&parts.places[..count], parts.topo_node_indices());
     note_reach(graph, work)?;
     Ok(parts.count)
 }

@@ -7,16 +7,16 @@ use Rattle.routes.specs.Graph.{Proper}
 use Rattle.graph.specs.declared.raw.RawInstGraph.{RawInstGraph}
 use Rattle.graph.specs.Model.{Model, model}
 use Rattle.graph.specs.Order.{stands_at}
+use Rattle.graph.specs.Sound.{Sound, Ordered}
+use Rattle.graph.proofs.Sound.{sound}
 use Rattle.analysis.specs.Runs.{run_answer}
 use Rattle.analysis.proofs.Answering.{done_says}
-use Rattle.analysis.proofs.Ranks.{Runnable}
-use Rattle.analysis.proofs.Sealed.{runnable}
 use Rattle.reconnect.specs.Graphs.{graph_in}
 
-proper : (m : Model) → Runnable m → Proper (graph_in m)
-proper m fine =
+proper : (m : Model) → Sound m → Ordered m → Proper (graph_in m)
+proper m good fine =
     record {
-      ends = fine.ends;
+      ends = good.ends;
       acyclic = λ n w. let back = leads_rank (Joins m.edges) (stands_at m.order) up n w.0 n w.1 in omega arith;
     }
   where
@@ -27,4 +27,4 @@ proper m fine =
 
 -- and its table has room for all nodes
 pub run_says : (g : RawInstGraph) (entries : ℕ) → run_answer entries (model g) ≡ Ok tt → Proper (graph_in (model g)) × (length (model g).nodes ≤ entries)
-run_says g entries ok = let done = done_says entries (model g) ok in (proper (model g) (runnable g done.0), done.1)
+run_says g entries ok = let done = done_says entries (model g) ok in (proper (model g) (sound g) ((sound g).ordered done.0), done.1)

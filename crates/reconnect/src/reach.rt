@@ -4,9 +4,11 @@ ghost use Rattle.records.specs.declared.node.Node.{Node};
 ghost use Rattle.records.specs.Nodes.{is_shown};
 ghost use Rattle.graph.specs.Model.{model};
 ghost use Rattle.analysis.specs.Runs.{run_answer, run_table};
-ghost use Rattle.reconnect.specs.Reach.{reach_meaning, is_enabled, TellsReach};
+ghost use Rattle.routes.specs.Reach.{reach_meaning, TellsReach};
+ghost use Rattle.reconnect.specs.Graphs.{graph_in};
+ghost use Rattle.reconnect.specs.Reach.{is_enabled};
 
-use analysis::analysis::TopoAnalysis;
+use analysis::analysis::{Going, TopoAnalysis};
 use analysis::run::topo_analysis;
 use graph::raw::RawInstGraph;
 use records::node::Node;
@@ -48,19 +50,9 @@ pub struct BwdReachableAnalysis<Kind: ReachKind>(pub PhantomData<Kind>);
 impl<Kind: ReachKind> TopoAnalysis for BwdReachableAnalysis<Kind> {
     type Value = bool;
 
-    ghost forward = { false };
-
-    ghost skips = { false };
+    type Course = Going<false, false>;
 
     ghost meaning = { λ _. reach_meaning Kind.ReachKind.wanted };
-
-    fn forward() -> bool {
-        false
-    }
-
-    fn skips_disabled() -> bool {
-        false
-    }
 
     fn blank(&self) -> bool {
         false
@@ -91,7 +83,7 @@ impl<Kind: ReachKind> TopoAnalysis for BwdReachableAnalysis<Kind> {
 pub fn reach<Kind: ReachKind>(graph: &RawInstGraph, table: &mut [bool]) -> Result<(), Refusal>
     ensures answer { result ≡ run_answer (length table.old) (model graph.now) }
     ensures values { table.new ≡ run_table (reach_meaning Kind.wanted) false false (model graph.now) table.old }
-    ensures tells { result ≡ Ok tt → TellsReach Kind.wanted (model graph.now) (take (length (model graph.now).nodes) table.new) }
+    ensures tells { result ≡ Ok tt → TellsReach Kind.wanted (graph_in (model graph.now)) (take (length (model graph.now).nodes) table.new) }
 {
     let analysis: BwdReachableAnalysis<Kind> = BwdReachableAnalysis(PhantomData);
     topo_analysis(graph, &analysis, table)

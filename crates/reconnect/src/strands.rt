@@ -1,12 +1,12 @@
 // The strand analysis.
-ghost use Rattle.std.specs.Prelude.{◌≡◌, true, false, length, take, Ok, slice_index_or};
+ghost use Rattle.std.specs.Prelude.{◌≡◌, true, false, length, take, Ok};
 ghost use Rattle.routes.specs.Laws.{StrandsStand};
 ghost use Rattle.routes.specs.Strands.{strand_meaning};
 ghost use Rattle.graph.specs.Model.{model};
 ghost use Rattle.analysis.specs.Runs.{run_answer, run_table};
 ghost use Rattle.reconnect.specs.Graphs.{graph_in};
 
-use analysis::analysis::TopoAnalysis;
+use analysis::analysis::{Going, TopoAnalysis};
 use analysis::run::topo_analysis;
 use graph::raw::RawInstGraph;
 use records::node::Node;
@@ -21,38 +21,12 @@ pub struct ReconnectAnalysis<'a> {
     pub live: &'a [bool],
 }
 
-impl ReconnectAnalysis<'_> {
-    fn is_live(&self, at: usize) -> bool
-        ensures { result ≡ slice_index_or self.now.live.now at false }
-    {
-        if at < self.live.len() {
-            self.live[at]
-        } else {
-            false
-        }
-    }
-}
-
-impl<'a> TopoAnalysis for ReconnectAnalysis<'a> {
+impl TopoAnalysis for ReconnectAnalysis<'_> {
     type Value = Strands;
 
-    ghost forward = { true };
-
-    ghost skips = { false };
+    type Course = Going<true, false>;
 
     ghost meaning = { λ a. strand_meaning a.source a.live.now };
-
-    fn forward() -> bool
-        ensures { result ≡ true }
-    {
-        true
-    }
-
-    fn skips_disabled() -> bool
-        ensures { result ≡ false }
-    {
-        false
-    }
 
     fn blank(&self) -> Strands {
         BLANK
@@ -80,7 +54,11 @@ impl<'a> TopoAnalysis for ReconnectAnalysis<'a> {
     }
 
     fn close(&self, so_far: Strands, at: usize, _node: &Node) -> Strands {
-        if self.is_live(at) { so_far } else { BLANK }
+        if self.live.get(at).copied().unwrap_or(false) {
+            so_far
+        } else {
+            BLANK
+        }
     }
 }
 

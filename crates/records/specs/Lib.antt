@@ -1,4 +1,5 @@
 pub mod Nodes
+pub mod Unknown
 pub mod Edges
 pub mod Refusals
 pub mod SheetRefusals

@@ -1,5 +1,5 @@
 -- Nodes by their states.
-use Rattle.std.specs.Prelude.{ℕ, Bool, true, false, None}
+use Rattle.std.specs.Prelude.{ℕ, Bool, true, false, cond, Some, None, Option, ◌==◌}
 use Rattle.records.specs.declared.node.Node.{Node}
 use Rattle.records.specs.declared.node.NodeKind.{NodeKind}
 use Rattle.records.specs.declared.node.NodeKind.TheVariants.{Instantiation, ENode, GivenEquality, TransEquality, Proof, Cdcl}
@@ -15,6 +15,15 @@ kind_number GivenEquality = 2
 kind_number TransEquality = 3
 kind_number Proof = 4
 kind_number Cdcl = 5
+
+-- the state and the kind that a byte stands for
+abbrev pub state_of : ℕ → Option NodeState
+state_of b = cond (b == 0) (Some Disabled) (cond (b == 1) (Some Hidden) (cond (b == 2) (Some Visible) None))
+
+abbrev pub kind_of : ℕ → Option NodeKind
+kind_of b =
+    cond (b == 0) (Some Instantiation) (cond (b == 1) (Some ENode) (cond (b == 2) (Some GivenEquality)
+    (cond (b == 3) (Some TransEquality) (cond (b == 4) (Some Proof) (cond (b == 5) (Some Cdcl) None)))))
 
 abbrev pub same_state : NodeState → NodeState → Bool
 same_state Disabled Disabled = true

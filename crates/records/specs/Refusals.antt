@@ -1,5 +1,5 @@
 -- The refusals of a graph by their numbers, and what comes with each.
-use Rattle.std.specs.Prelude.{ℕ}
+use Rattle.std.specs.Prelude.{ℕ, List, ◌++◌, codes, decimal}
 use Rattle.records.specs.declared.refusal.Refusal.{Refusal}
 use Rattle.records.specs.declared.refusal.Refusal.TheVariants.{Sealed, StillOpen, UnknownNode, NodesFull, EdgesFull, TableTooShort, ClosedWalk, NodeRowsTooFew, EdgeRowsTooFew, PathNumbersTooFew, BufferTooShort}
 
@@ -29,3 +29,7 @@ detail (NodeRowsTooFew n) = n
 detail (EdgeRowsTooFew n) = n
 detail (PathNumbersTooFew n) = n
 detail (BufferTooShort n) = n
+
+-- the two numbers as text
+abbrev pub refusal_line : Refusal → List ℕ
+refusal_line e = decimal (number e) ++ (codes " " ++ decimal (detail e))

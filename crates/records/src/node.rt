@@ -1,16 +1,51 @@
 // What a node is.
-ghost use Rattle.std.specs.Prelude.{◌≡◌};
-ghost use Rattle.records.specs.Nodes.{asked, is_disabled, is_hidden, is_shown, kind_number};
+ghost use Rattle.std.specs.Prelude.{◌≡◌, ok_or};
+ghost use Rattle.records.specs.Nodes.{asked, is_disabled, is_hidden, is_shown, kind_number, kind_of, state_of};
+ghost use Rattle.records.specs.Unknown.{unknown_kind, unknown_state};
 
-#[derive(Clone, Copy, PartialEq, Eq, Debug)]
+use std::error::Error;
+use std::fmt;
+
+// The states are numbered from 0.
+#[derive(Clone, Copy, PartialEq, Eq, Debug, Default)]
 pub enum NodeState {
     Disabled,
+    #[default]
     Hidden,
     Visible,
 }
 
+// A number that no state has.
 #[derive(Clone, Copy, PartialEq, Eq, Debug)]
+pub struct UnknownState(pub u8);
+
+impl TryFrom<u8> for NodeState {
+    type Error = UnknownState;
+
+    ghost try_from_gives = { λ number state. state ≡ ok_or (state_of number) (unknown_state number) };
+
+    fn try_from(number: u8) -> Result<Self, UnknownState> {
+        match number {
+            0 => Ok(NodeState::Disabled),
+            1 => Ok(NodeState::Hidden),
+            2 => Ok(NodeState::Visible),
+            _ => Err(UnknownState(number)),
+        }
+    }
+}
+
+impl fmt::Display for UnknownState {
+    fn fmt<W: fmt::Write>(&self, f: &mut fmt::Formatter<W>) -> fmt::Result {
+        write!(f, "no state has number {}", self.0)
+    }
+}
+
+impl Error for UnknownState {}
+
+// The kinds are numbered from 0.
+#[derive(Clone, Copy, PartialEq, Eq, Debug, Default)]
 pub enum NodeKind {
+    #[default]
     Instantiation,
     ENode,
     GivenEquality,
@@ -19,21 +54,43 @@ pub enum NodeKind {
     Cdcl,
 }
 
-impl NodeKind {
-    // The kinds are numbered from 0.
-    pub fn number(self) -> u8
-        ensures { result ≡ kind_number self }
-    {
-        match self {
-            NodeKind::Instantiation => 0,
-            NodeKind::ENode => 1,
-            NodeKind::GivenEquality => 2,
-            NodeKind::TransEquality => 3,
-            NodeKind::Proof => 4,
-            NodeKind::Cdcl => 5,
+impl From<NodeKind> for u8 {
+    ghost from_gives = { λ kind number. number ≡ kind_number kind };
+
+    fn from(kind: NodeKind) -> u8 {
+        kind as u8
+    }
+}
+
+// A number that no kind has.
+#[derive(Clone, Copy, PartialEq, Eq, Debug)]
+pub struct UnknownKind(pub u8);
+
+impl TryFrom<u8> for NodeKind {
+    type Error = UnknownKind;
+
+    ghost try_from_gives = { λ number kind. kind ≡ ok_or (kind_of number) (unknown_kind number) };
+
+    fn try_from(number: u8) -> Result<Self, UnknownKind> {
+        match number {
+            0 => Ok(NodeKind::Instantiation),
+            1 => Ok(NodeKind::ENode),
+            2 => Ok(NodeKind::GivenEquality),
+            3 => Ok(NodeKind::TransEquality),
+            4 => Ok(NodeKind::Proof),
+            5 => Ok(NodeKind::Cdcl),
+            _ => Err(UnknownKind(number)),
         }
     }
 }
+
+impl fmt::Display for UnknownKind {
+    fn fmt<W: fmt::Write>(&self, f: &mut fmt::Formatter<W>) -> fmt::Result {
+        write!(f, "no kind has number {}", self.0)
+    }
+}
+
+impl Error for UnknownKind {}
 
 // The number of a node's subgraph, and where the node stands in that subgraph's order.
 #[derive(Clone, Copy, PartialEq, Eq, Debug)]
@@ -42,7 +99,7 @@ pub struct Place {
     pub position: u16,
 }
 
-#[derive(Clone, Copy, PartialEq, Eq, Debug)]
+#[derive(Clone, Copy, PartialEq, Eq, Debug, Default)]
 pub struct Node {
     pub state: NodeState,
     pub kind: NodeKind,
@@ -77,11 +134,11 @@ pub enum Visibility {
     Visible,
 }
 
-impl Visibility {
-    pub fn state(self) -> NodeState
-        ensures { result ≡ asked self }
-    {
-        match self {
+impl From<Visibility> for NodeState {
+    ghost from_gives = { λ to state. state ≡ asked to };
+
+    fn from(to: Visibility) -> NodeState {
+        match to {
             Visibility::Hidden => NodeState::Hidden,
             Visibility::Visible => NodeState::Visible,
         }

@@ -1,6 +1,9 @@
 // Why a graph did not do what it was asked.
-ghost use Rattle.std.specs.Prelude.{◌≡◌};
-ghost use Rattle.records.specs.Refusals.{number, detail};
+ghost use Rattle.std.specs.Prelude.{◌≡◌, Some};
+ghost use Rattle.records.specs.Refusals.{number, detail, refusal_line};
+
+use std::error::Error;
+use std::fmt;
 
 // Each case that carries a number carries what comes with the refusal.
 #[derive(Clone, Copy, PartialEq, Eq, Debug)]
@@ -56,3 +59,16 @@ impl Refusal {
         }
     }
 }
+
+// The number, and what comes with it.
+impl fmt::Display for Refusal {
+    ghost output = { λ refusal. Some (refusal_line refusal) };
+
+    fn fmt<W: fmt::Write>(&self, f: &mut fmt::Formatter<W>) -> fmt::Result {
+        let number = self.number();
+        let detail = self.detail();
+        write!(f, "{number} {detail}")
+    }
+}
+
+impl Error for Refusal {}

@@ -1,8 +1,10 @@
 // Why a sheet was not read.
-ghost use Rattle.std.specs.Prelude.{◌≡◌};
-ghost use Rattle.records.specs.SheetRefusals.{sheet_number, sheet_detail};
+ghost use Rattle.std.specs.Prelude.{◌≡◌, Some};
+ghost use Rattle.records.specs.SheetRefusals.{sheet_number, sheet_detail, sheet_refusal_line};
 
 use crate::refusal::Refusal;
+use std::error::Error;
+use std::fmt;
 
 // Each case tells the byte that it is about; a row that the graph refuses comes with the graph's refusal.
 #[derive(Clone, Copy, PartialEq, Eq, Debug)]
@@ -43,3 +45,23 @@ impl SheetRefusal {
         }
     }
 }
+
+// The number and what comes with it, and after them the graph's refusal of a row.
+impl fmt::Display for SheetRefusal {
+    ghost output = { λ refusal. Some (sheet_refusal_line refusal) };
+
+    fn fmt<W: fmt::Write>(&self, f: &mut fmt::Formatter<W>) -> fmt::Result {
+        let number = self.number();
+        let detail = self.detail();
+        match self {
+            SheetRefusal::Row(_, cause) => write!(f, "{number} {detail} graph {cause}"),
+            SheetRefusal::Short(_)
+            | SheetRefusal::Version
+            | SheetRefusal::Length
+            | SheetRefusal::Misfit(_)
+            | SheetRefusal::BadByte(_) => write!(f, "{number} {detail}"),
+        }
+    }
+}
+
+impl Error for SheetRefusal {}

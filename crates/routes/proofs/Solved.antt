@@ -1,17 +1,13 @@
 -- In a graph without closed walks each analysis has one table.
-use Rattle.std.proofs.Common.{ℕ, ◌-◌, List, [], ◌∷◌, length, refl, inl, inr, arith}
+use Rattle.std.proofs.Common.{ℕ, ◌-◌, length, arith}
 use Rattle.records.specs.declared.edge.Direction.TheVariants.{Incoming, Outgoing}
 use Rattle.analysis.specs.Rule.{Meaning, Solves, value_table}
-use Rattle.records.specs.Walks.{Among}
 use Rattle.graph.proofs.Seen.{seen_joins}
-use Rattle.analysis.proofs.Unique.{Each, Lower, value_solves}
+use Rattle.walk_neighbors.proofs.Each.{each_among}
+use Rattle.analysis.proofs.Unique.{Lower, value_solves}
 use Rattle.routes.specs.Graph.{Graph, parents, children, Proper}
 use Rattle.routes.proofs.Ranks.{rank, rank_within, rank_onward}
 use Rattle.routes.proofs.Settled.{Ranked, edge_from, edge_to, edge_rank}
-
-each_among : {X : Type 0} (P : X → Type 0) (xs : List X) → ((x : X) → Among x xs → P x) → Each P xs
-each_among P [] f = tt
-each_among P (x ∷ xs) f = (f x (inl refl), each_among P xs (λ y m. f y (inr m)))
 
 module _ (g : Graph) (proper : Proper g) where
   abbrev pub along : ℕ → ℕ

@@ -5,7 +5,8 @@ use Rattle.records.specs.declared.node.NodeKind.{NodeKind}
 use Rattle.records.specs.declared.node.NodeKind.TheVariants.{Instantiation, ENode, GivenEquality, TransEquality, Proof, Cdcl}
 use Rattle.records.specs.declared.node.NodeState.{NodeState}
 use Rattle.records.specs.declared.node.NodeState.TheVariants.{Disabled, Hidden, Visible}
-use Rattle.sheet.specs.Bytes.{state_of, kind_of, word, long}
+use Rattle.records.specs.Nodes.{state_of, kind_of}
+use Rattle.sheet.specs.Bytes.{word, long}
 use Rattle.records.specs.Nodes.{kind_number}
 use Rattle.sheet.specs.Encoding.{state_byte, two, four}
 

@@ -9,7 +9,7 @@ use Rattle.records.specs.declared.sheet_refusal.SheetRefusal.{SheetRefusal}
 use Rattle.records.specs.declared.sheet_refusal.SheetRefusal.TheVariants.{Short, Length}
 use Rattle.records.specs.declared.stage.Stage.TheVariants.{Open}
 use Rattle.graph.specs.Model.{Model, Outcome, empty, with_edges}
-use Rattle.sheet.specs.declared.rows.SheetNode.{SheetNode}
+use Rattle.sheet.specs.declared.reader.SheetNode.{SheetNode}
 use Rattle.sheet.specs.Bytes.{long}
 use Rattle.sheet.specs.Rows.{count_at, node_row, edge_row}
 use Rattle.sheet.specs.Reading.{next, at_row, node_added, edge_added, nodes_read, edges_read, edge_part, body_read, sheet_read}

@@ -8,8 +8,9 @@ use Rattle.records.specs.declared.node.NodeState.{NodeState}
 use Rattle.records.specs.declared.sheet_refusal.SheetRefusal.{SheetRefusal}
 use Rattle.records.specs.declared.sheet_refusal.SheetRefusal.TheVariants.{Misfit}
 use Rattle.records.specs.Edges.{edge}
-use Rattle.sheet.specs.declared.rows.SheetNode.{SheetNode}
-use Rattle.sheet.specs.Bytes.{Bytes, state_of, kind_of, long}
+use Rattle.sheet.specs.declared.reader.SheetNode.{SheetNode}
+use Rattle.records.specs.Nodes.{state_of, kind_of}
+use Rattle.sheet.specs.Bytes.{Bytes, long}
 use Rattle.sheet.specs.Rows.{count_at, row_of, node_row, edge_row}
 use Rattle.records.specs.Nodes.{kind_number}
 use Rattle.sheet.specs.Encoding.{state_byte, two, four, node_bytes, edge_bytes}

@@ -8,7 +8,7 @@ use Rattle.records.specs.declared.refusal.Refusal.TheVariants.{NodesFull, EdgesF
 use Rattle.records.specs.declared.stage.Stage.TheVariants.{Open}
 use Rattle.records.specs.Nodes.{fresh, no_node}
 use Rattle.graph.specs.Model.{Model, done, refused, with_nodes, with_edges, with_generation}
-use Rattle.sheet.specs.declared.rows.SheetNode.{SheetNode}
+use Rattle.sheet.specs.declared.reader.SheetNode.{SheetNode}
 use Rattle.sheet.specs.Reading.{at_row, node_added, edge_added}
 use Rattle.sheet.specs.Encoding.{Inside, rises}
 use Rattle.sheet.proofs.RowLaws.{row_for, node_of}

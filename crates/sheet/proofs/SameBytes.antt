@@ -10,7 +10,7 @@ use Rattle.records.specs.declared.sheet_refusal.SheetRefusal.{SheetRefusal}
 use Rattle.records.specs.declared.sheet_refusal.SheetRefusal.TheVariants.{Misfit, Short, Version, Length}
 use Rattle.records.specs.declared.stage.Stage.TheVariants.{Open}
 use Rattle.graph.specs.Model.{Model, empty, with_edges}
-use Rattle.sheet.specs.declared.rows.SheetNode.{SheetNode}
+use Rattle.sheet.specs.declared.reader.SheetNode.{SheetNode}
 use Rattle.sheet.specs.Bytes.{Bytes, long}
 use Rattle.sheet.specs.Rows.{count_at, node_row, edge_row}
 use Rattle.sheet.specs.Reading.{next, at_row, node_added, nodes_read, edge_added, edges_read, edge_part, body_read}

@@ -6,7 +6,7 @@ use Rattle.records.specs.declared.sheet_refusal.SheetRefusal.TheVariants.{Short,
 use Rattle.graph.specs.Model.{Model, Outcome, empty}
 use Rattle.graph.specs.Adding.{add_edge}
 use Rattle.graph.specs.Hiding.{add_node_in}
-use Rattle.sheet.specs.declared.rows.SheetNode.{SheetNode}
+use Rattle.sheet.specs.declared.reader.SheetNode.{SheetNode}
 use Rattle.sheet.specs.Bytes.{long}
 use Rattle.sheet.specs.Rows.{count_at, node_row, edge_row, in_row}
 

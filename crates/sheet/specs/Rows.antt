@@ -1,5 +1,5 @@
 -- The counts and rows of a sheet, each by its place p and the bytes from there on.
-use Rattle.std.specs.Prelude.{ℕ, ◌+◌, cond, List, length, Some, None, Ok, Err, Option, Result, nat_lt, slice_index}
+use Rattle.std.specs.Prelude.{ℕ, ◌+◌, cond, List, length, take, Some, None, Ok, Err, Option, Result, nat_lt, slice_index}
 use Rattle.records.specs.declared.edge.Edge.{Edge}
 use Rattle.records.specs.declared.node.NodeKind.{NodeKind}
 use Rattle.records.specs.declared.node.NodeState.{NodeState}
@@ -7,8 +7,13 @@ use Rattle.records.specs.declared.refusal.Refusal.{Refusal}
 use Rattle.records.specs.declared.sheet_refusal.SheetRefusal.{SheetRefusal}
 use Rattle.records.specs.declared.sheet_refusal.SheetRefusal.TheVariants.{Misfit, BadByte, Row}
 use Rattle.records.specs.Edges.{edge}
-use Rattle.sheet.specs.declared.rows.SheetNode.{SheetNode}
-use Rattle.sheet.specs.Bytes.{state_of, kind_of, word, long}
+use Rattle.sheet.specs.declared.reader.SheetNode.{SheetNode}
+use Rattle.records.specs.Nodes.{state_of, kind_of}
+use Rattle.sheet.specs.Bytes.{word, long}
+
+-- the next n bytes
+abbrev pub chunk : ℕ → ℕ → List ℕ → Result (List ℕ) SheetRefusal
+chunk n p bs = cond (nat_lt (length bs) n) (Err (Misfit p)) (Ok (take n bs))
 
 abbrev pub count_at : ℕ → List ℕ → Result ℕ SheetRefusal
 count_at p bs = cond (nat_lt (length bs) 2) (Err (Misfit p)) (Ok (word bs 0))

@@ -1,6 +1,5 @@
 // Sheets: a graph written in bytes, and the reading of it.
 #![tactic(auto)]
 
-mod bytes;
+mod reader;
 pub mod reading;
-mod rows;

@@ -4,7 +4,7 @@ ghost use Rattle.graph.specs.Model.{Model, model, empty};
 ghost use Rattle.sheet.specs.Reading.{followed, nodes_read, edges_read, body_read, sheet_read, answered, left};
 ghost use Rattle.sheet.specs.Encoding.{sheet_of, Given};
 
-use crate::rows::{COUNT, EDGE_ROW, NODE_ROW, in_row, read_count, read_edge_row, read_node_row};
+use crate::reader::Reader;
 use graph::raw::RawInstGraph;
 use records::sheet_refusal::SheetRefusal;
 
@@ -49,46 +49,52 @@ fn take_body(graph: &mut RawInstGraph, bytes: &[u8]) -> Result<(), SheetRefusal>
     requires new { model graph.old ≡ empty }
     ensures { followed result (model graph.new) ≡ body_read bytes.now }
 {
-    let nodes = read_count(bytes, HEAD)?;
-    take_nodes(graph, bytes, nodes)?;
-    let at = HEAD + COUNT + NODE_ROW * nodes as usize;
-    let edges = read_count(bytes, at)?;
-    take_edges(graph, bytes, at + COUNT, edges)
+    let mut reader = Reader { bytes, at: HEAD };
+    let nodes = reader.count()?;
+    take_nodes(graph, &mut reader, nodes)?;
+    let edges = reader.count()?;
+    take_edges(graph, &mut reader, edges)
 }
 
 // The node rows, which follow their count.
-fn take_nodes(graph: &mut RawInstGraph, bytes: &[u8], count: u16) -> Result<(), SheetRefusal>
-    requires { 7 ≤ length bytes.now }
-    ensures value { followed result (model graph.new) ≡ nodes_read count 7 bytes.now (model graph.old) }
-    ensures fits { OnOk result (7 + 6 * count ≤ length bytes.now) }
+#[tactic(auto, using(crate::proofs::RowSteps::nodes_more))]
+fn take_nodes(
+    graph: &mut RawInstGraph,
+    reader: &mut Reader<'_>,
+    count: u16,
+) -> Result<(), SheetRefusal>
+    ensures value { followed result (model graph.new) ≡ nodes_read count reader.old.at reader.old.bytes.now (model graph.old) }
+    ensures at { OnOk result (reader.new.at ≡ reader.old.at + 6 * count) }
+    ensures bytes { reader.new.bytes ≡ reader.old.bytes }
 {
-    let mut at = HEAD + COUNT;
     for _row in 0..count {
-        let row = read_node_row(bytes, at)?;
-        in_row(at, graph.add_node_in(row.state, row.kind, row.item))?;
-        at += NODE_ROW;
+        let at = reader.at;
+        let row = reader.node_row()?;
+        graph
+            .add_node_in(row.state, row.kind, row.item)
+            .map_err(|refusal| SheetRefusal::Row(at, refusal))?;
     }
     Ok(())
 }
 
-// The edge rows, from byte `first` on, and the end of the sheet.
+// The edge rows, and the end of the sheet.
+#[tactic(auto, using(crate::proofs::RowSteps::edges_more))]
 fn take_edges(
     graph: &mut RawInstGraph,
-    bytes: &[u8],
-    first: usize,
+    reader: &mut Reader<'_>,
     count: u16,
 ) -> Result<(), SheetRefusal>
-    requires { first ≤ length bytes.now }
-    ensures { followed result (model graph.new) ≡ edges_read count first bytes.now (model graph.old) }
+    ensures { followed result (model graph.new) ≡ edges_read count reader.old.at reader.old.bytes.now (model graph.old) }
 {
-    let mut at = first;
     for _row in 0..count {
-        let row = read_edge_row(bytes, at)?;
-        in_row(at, graph.add_edge(row.source as usize, row.target as usize))?;
-        at += EDGE_ROW;
+        let at = reader.at;
+        let row = reader.edge_row()?;
+        graph
+            .add_edge(row.source as usize, row.target as usize)
+            .map_err(|refusal| SheetRefusal::Row(at, refusal))?;
     }
-    if at < bytes.len() {
-        return Err(SheetRefusal::Misfit(at));
+    if reader.at < reader.bytes.len() {
+        return Err(SheetRefusal::Misfit(reader.at));
     }
     Ok(())
 }

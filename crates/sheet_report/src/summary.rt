@@ -1,10 +1,13 @@
 // The facts of a graph that a report names.
-ghost use Rattle.std.specs.Prelude.{◌≡◌};
+ghost use Rattle.std.specs.Prelude.{◌≡◌, Some};
 ghost use Rattle.graph.specs.Model.{model};
 ghost use Rattle.sheet_report.specs.Summaries.{summary_of, of_kind};
+ghost use Rattle.std.specs.Fmt.{WritesOnOk};
+ghost use Rattle.sheet_report.specs.Texts.{line, lines, states, kinds, summary_text};
 
 use graph::raw::RawInstGraph;
 use records::node::{Node, NodeKind};
+use std::fmt;
 
 #[derive(Clone, Copy, PartialEq, Eq, Debug)]
 pub struct Summary {
@@ -27,13 +30,7 @@ pub struct Summary {
 fn count_kind(nodes: &[Node], kind: NodeKind) -> usize
     ensures { result ≡ of_kind kind nodes.now }
 {
-    let mut count = 0;
-    for node in nodes {
-        if node.kind.number() == kind.number() {
-            count += 1;
-        }
-    }
-    count
+    nodes.iter().filter(|node| node.kind == kind).count()
 }
 
 impl Summary {
@@ -56,5 +53,60 @@ impl Summary {
             proofs: count_kind(nodes, NodeKind::Proof),
             cdcls: count_kind(nodes, NodeKind::Cdcl),
         }
+    }
+}
+
+// A line with a name and a number.
+#[derive(Clone, Copy)]
+pub(crate) struct Fact<'a>(pub(crate) &'a str, pub(crate) usize);
+
+impl fmt::Display for Fact<'_> {
+    ghost output = { λ fact. Some (line fact.0.now fact.1) };
+
+    fn fmt<W: fmt::Write>(&self, f: &mut fmt::Formatter<W>) -> fmt::Result {
+        writeln!(f, "{} {}", self.0, self.1)
+    }
+}
+
+impl Summary {
+    // Writes a line for each fact on the nodes' states.
+    fn write_states<W: fmt::Write>(&self, f: &mut fmt::Formatter<W>) -> fmt::Result
+        ensures { WritesOnOk W.write_str_gives f.old result (lines (states self.now)) f.new }
+    {
+        write!(
+            f,
+            "{}{}{}{}{}{}",
+            Fact("nodes", self.nodes),
+            Fact("edges", self.edges),
+            Fact("shown", self.shown),
+            Fact("hidden", self.hidden as usize),
+            Fact("disabled", self.disabled as usize),
+            Fact("generation", self.generation as usize),
+        )
+    }
+
+    // Writes a line for each kind of node.
+    fn write_kinds<W: fmt::Write>(&self, f: &mut fmt::Formatter<W>) -> fmt::Result
+        ensures { WritesOnOk W.write_str_gives f.old result (lines (kinds self.now)) f.new }
+    {
+        write!(
+            f,
+            "{}{}{}{}{}{}",
+            Fact("Instantiation", self.instantiations),
+            Fact("ENode", self.enodes),
+            Fact("GivenEquality", self.given_equalities),
+            Fact("TransEquality", self.trans_equalities),
+            Fact("Proof", self.proofs),
+            Fact("Cdcl", self.cdcls),
+        )
+    }
+}
+
+impl fmt::Display for Summary {
+    ghost output = { λ summary. Some (summary_text summary) };
+
+    fn fmt<W: fmt::Write>(&self, f: &mut fmt::Formatter<W>) -> fmt::Result {
+        self.write_states(f)?;
+        self.write_kinds(f)
     }
 }

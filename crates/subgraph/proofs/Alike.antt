@@ -1,5 +1,5 @@
 -- Walks from tables that agree on the nodes.
-use Rattle.std.proofs.Common.{◌≡◌, ℕ, zero, suc, ◌<◌, ◌≤◌, Bool, true, false, cond, ◌⊎◌, List, [], ◌∷◌, length, get_or, set, sym, refl, ap, ◌∙◌, subst, inl, inr, ⊎_elim, arith}
+use Rattle.std.proofs.Common.{◌≡◌, ℕ, zero, suc, ◌<◌, ◌≤◌, Bool, true, false, cond, ◌&&◌, ◌⊎◌, List, [], ◌∷◌, length, get_or, set, sym, refl, ap, ◌∙◌, subst, inl, inr, ⊎_elim, arith}
 use Rattle.std.proofs.lemmas.List.{get_or-set_same, get_or-set_other, length-set}
 use Rattle.std.proofs.lemmas.Bool.{cases_eq, cond-true}
 use Rattle.records.specs.Walks.{Among}
@@ -31,7 +31,7 @@ module _ (N : ℕ) where
 
   pub all_alike : (v u : List Bool) → Agree v u → (xs : List ℕ) → ((y : ℕ) → Among y xs → y < N) → all_in xs v ≡ all_in xs u
   all_alike v u a [] h = refl
-  all_alike v u a (x ∷ xs) h = (λ i. cond (a x (h x (inl refl)) i) (all_alike v u a xs (λ y b. h y (inr b)) i) false)
+  all_alike v u a (x ∷ xs) h = (λ i. a x (h x (inl refl)) i && all_alike v u a xs (λ y b. h y (inr b)) i)
 
   fresh_all : (v : List Bool) (st : List ℕ) → ((y : ℕ) → Among y st → get_or v y false ≡ true) → fresh v st ≡ []
   fresh_all v [] h = refl

@@ -1,63 +1,39 @@
 -- One subgraph: its nodes, its start nodes, its order.
-use Rattle.std.proofs.Common.{◌≡◌, ℕ, zero, suc, ◌+◌, ◌<◌, ◌≤◌, Bool, true, false, ◌⊎◌, List, [], ◌∷◌, ◌++◌, length, get_or, set, sym, refl, ap, ◌∙◌, subst, inl, inr, ⊎_elim, arith}
-use Rattle.std.proofs.lemmas.List.{get_or-set_same, get_or-set_other, length-set, length-append}
+use Rattle.std.proofs.Common.{◌≡◌, ℕ, zero, suc, ◌+◌, ◌<◌, ◌≤◌, Bool, true, false, ◌⊎◌, List, [], ◌∷◌, length, get_or, set, sym, refl, ap, ◌∙◌, subst, inl, inr, ⊎_elim, arith}
+use Rattle.std.proofs.lemmas.List.{get_or-set_same, get_or-set_other, length-set, length-append, length-reverse}
+use Rattle.std.proofs.lemmas.List.Sums.{length-filter, count_by-le-length}
 use Rattle.std.proofs.lemmas.Bool.{cases_eq, cases_Bool, both_ways}
 use Rattle.records.specs.declared.edge.Edge.{Edge}
 use Rattle.records.specs.declared.edge.Direction.TheVariants.{Outgoing, Incoming}
-use Rattle.records.specs.Edges.{history, add_if}
+use Rattle.records.specs.Edges.{history}
 use Rattle.records.specs.Walks.{Among, Joins, Acyclic, Connected}
 use Rattle.records.specs.Walks.Connected.{here, onward, backward}
-use Rattle.tables.specs.Latest.{latest}
 use Rattle.tables.specs.Marks.{blanks}
 use Rattle.tables.specs.Steps.{Below}
 use Rattle.tables.proofs.Marking.{blanks_set, blanks_le}
-use Rattle.walks.specs.declared.explore.Ways.TheVariants.{Both}
 use Rattle.walks.specs.Exploring.{targets, sources, nexts, Trail, walked, pending}
-use Rattle.walks.proofs.Seeing.{joins_among, among_joins, joins_sources, sources_joins}
-use Rattle.walks.proofs.Exploring.{stacked_only, walk_cases}
+use Rattle.graph.proofs.Seen.{joins_seen, seen_joins}
+use Rattle.walks.specs.Joined.{nexts_joined}
+use Rattle.walks.proofs.Exploring.{stacked_only, walk_cases, below_at}
+use Rattle.graph.proofs.Standings.{among_left, among_right}
 use Rattle.walks.proofs.Closure.{visited_set, set_visited, Ended, ended, only, kept, Past, walk_past}
 use Rattle.walks.proofs.Degrees.{total, total_edges, pending_total}
 use Rattle.subgraph.specs.Sorting.{all_in, is_ready, ready}
 use Rattle.subgraph.specs.Orders.{Ordered, is_empty, starts, found_from, sorted_from, Shut, NoMore}
+use Rattle.subgraph.proofs.Lists.{filter_has, filter_only, below_each}
 use Rattle.subgraph.proofs.Sorting.{all_in_each}
 use Rattle.subgraph.proofs.Topological.{State, runs, all_done}
 
 -- ---- lists
-pub below_latest : (N k i : ℕ) (items : List ℕ) → Below N (latest 0 k items) → i < k → get_or items i 0 < N
-below_latest N zero i items b h = absurd (omega arith)
-below_latest N (suc k) i items b h =
-    ⊎_elim (λ (is : i ≡ k). subst (λ j. get_or items j 0 < N) (sym is) b.0) (λ (ne : i ≡ k → ⊥). below_latest N k i items b.1 (omega arith)) (cases_eq i k)
-
+-- the start nodes are some of those found
 pub length_starts : (es : List Edge) (ns : List ℕ) → length (starts es ns) ≤ length ns
-length_starts es [] = omega arith
-length_starts es (n ∷ ns) =
-    let rest = length_starts es ns in
-    elim (is_empty (sources es n)) as (λ b. length (add_if b n (starts es ns)) ≤ suc (length ns)) [ true ↦ omega arith | false ↦ omega arith ]
+length_starts es ns =
+    let size = length-filter (λ n. is_empty (sources es n)) ns in
+    let few = count_by-le-length (λ n. is_empty (sources es n)) ns in
+    omega arith
 
 pub below_starts : (es : List Edge) (N : ℕ) (ns : List ℕ) → Below N ns → Below N (starts es ns)
-below_starts es N [] b = tt
-below_starts es N (n ∷ ns) b =
-    let rest = below_starts es N ns b.1 in
-    elim (is_empty (sources es n)) as (λ t. Below N (add_if t n (starts es ns))) [ true ↦ (b.0, rest) | false ↦ rest ]
-
-starts_has : (es : List Edge) (ns : List ℕ) (m : ℕ) → Among m ns → is_empty (sources es m) ≡ true → Among m (starts es ns)
-starts_has es [] m a t = a
-starts_has es (n ∷ ns) m (inl is) t = subst (λ b. Among m (add_if b n (starts es ns))) (sym (ap (λ i. is_empty (sources es i)) (sym is) ∙ t)) (inl is)
-starts_has es (n ∷ ns) m (inr a) t =
-    let rest = starts_has es ns m a t in
-    elim (is_empty (sources es n)) as (λ b. Among m (add_if b n (starts es ns))) [ true ↦ inr rest | false ↦ rest ]
-
-starts_only : (es : List Edge) (ns : List ℕ) (m : ℕ) → Among m (starts es ns) → Among m ns × (is_empty (sources es m) ≡ true)
-starts_only es [] m a = absurd a
-starts_only es (n ∷ ns) m a =
-    ⊎_elim
-    (λ (t : is_empty (sources es n) ≡ true). first t (starts_only es ns m) (subst (λ b. Among m (add_if b n (starts es ns))) t a))
-    (λ (f : is_empty (sources es n) ≡ false). let rest = starts_only es ns m (subst (λ b. Among m (add_if b n (starts es ns))) f a) in (inr rest.0, rest.1))
-    (cases_Bool (is_empty (sources es n)))
-  where
-    first : is_empty (sources es n) ≡ true → (Among m (starts es ns) → Among m ns × (is_empty (sources es m) ≡ true)) → Among m (n ∷ starts es ns) → Among m (n ∷ ns) × (is_empty (sources es m) ≡ true)
-    first t deeper (inl is) = (inl is, ap (λ i. is_empty (sources es i)) is ∙ t)
-    first t deeper (inr b) = (inr (deeper b).0, (deeper b).1)
+below_starts es N ns b = below_each N (starts es ns) (λ y a. below_at N ns y b (filter_only (λ n. is_empty (sources es n)) ns y a).0)
 
 is_empty_in : (xs : List ℕ) (v : List Bool) → is_empty xs ≡ true → all_in xs v ≡ true
 is_empty_in [] v h = refl
@@ -67,28 +43,15 @@ is_empty_from : (xs : List ℕ) → ((y : ℕ) → Among y xs → ⊥) → is_em
 is_empty_from [] h = refl
 is_empty_from (x ∷ xs) h = absurd (h x (inl refl))
 
-pub among_left : (xs ys : List ℕ) (y : ℕ) → Among y xs → Among y (xs ++ ys)
-among_left [] ys y a = absurd a
-among_left (x ∷ xs) ys y (inl e) = inl e
-among_left (x ∷ xs) ys y (inr a) = inr (among_left xs ys y a)
-
-pub among_right : (xs ys : List ℕ) (y : ℕ) → Among y ys → Among y (xs ++ ys)
-among_right [] ys y a = a
-among_right (x ∷ xs) ys y a = inr (among_right xs ys y a)
-
-pub among_either : (xs ys : List ℕ) (y : ℕ) → Among y (xs ++ ys) → Among y xs ⊎ Among y ys
-among_either [] ys y a = inr a
-among_either (x ∷ xs) ys y (inl e) = inl (inl e)
-among_either (x ∷ xs) ys y (inr a) = ⊎_elim (λ b. inl (inr b)) (λ b. inr b) (among_either xs ys y a)
-
 -- ---- room
-total_both : (es : List Edge) (n : ℕ) → total (nexts Both es) n ≡ total (targets es) n + total (sources es) n
+total_both : (es : List Edge) (n : ℕ) → total (nexts es) n ≡ total (targets es) n + total (sources es) n
 total_both es zero = refl
 total_both es (suc n) = let rest = total_both es n in let here' = length-append (targets es n) (sources es n) in omega arith
 
-pub room_two : (es : List Edge) (N : ℕ) (v : List Bool) → length (history es) ≤ 4096 → 1 + pending (nexts Both es) N v ≤ 8193
+pub room_two : (es : List Edge) (N : ℕ) (v : List Bool) → length es ≤ 4096 → 1 + pending (nexts es) N v ≤ 8193
 room_two es N v few =
-    let p = pending_total (nexts Both es) N v in
+    let size = length-reverse es in
+    let p = pending_total (nexts es) N v in
     let t = total_both es N in
     let a = total_edges Outgoing (history es) N in
     let b = total_edges Incoming (history es) N in
@@ -150,11 +113,8 @@ unfound es v shut root new (onward {b} {c} w j) = sym (shut b c j) ∙ unfound e
 unfound es v shut root new (backward {b} {c} w j) = shut c b j ∙ unfound es v shut root new w
 
 module _ (es : List Edge) (N : ℕ) (inside : (x y : ℕ) → Joins es x y → (x < N) × (y < N)) where
-  either_way : (x y : ℕ) → Among y (nexts Both es x) → Joins es x y ⊎ Joins es y x
-  either_way x y a = ⊎_elim (λ b. inl (among_joins es x y b)) (λ b. inr (sources_joins es y x b)) (among_either (targets es x) (sources es x) y a)
-
-  pub in_nexts : (x y : ℕ) → Among y (nexts Both es x) → y < N
-  in_nexts x y a = ⊎_elim (λ j. (inside x y j).1) (λ j. (inside y x j).0) (either_way x y a)
+  pub in_nexts : (x y : ℕ) → Among y (nexts es x) → y < N
+  in_nexts x y a = ⊎_elim (λ j. (inside x y j).1) (λ j. (inside y x j).0) (nexts_joined es x y a)
 
   module _ (root : ℕ) (low : root < N) (v : List Bool) (long : N ≤ length v) (shut : Shut es v) (new : get_or v root false ≡ false) where
     on_stack : (y : ℕ) → Among y (root ∷ []) → y < N
@@ -170,41 +130,41 @@ module _ (es : List Edge) (N : ℕ) (inside : (x y : ℕ) → Joins es x y → (
     pub tied : Tie N v marks found
     tied =
         let few = blanks_le N v in
-        kept (nexts Both es) N in_nexts (Tie N v) (tie_more N v) (blanks N v) v (root ∷ []) [] on_stack
+        kept (nexts es) N in_nexts (Tie N v) (tie_more N v) (blanks N v) v (root ∷ []) [] on_stack
         (record { long = long; size = omega arith; below = tt; to = λ x h. inl h; from = λ x a. absurd a; kept = λ x h. h })
 
     -- the entries past the nodes stay
     pub found_past : Past N v marks
-    found_past = walk_past (nexts Both es) N in_nexts (blanks N v) v (root ∷ []) [] on_stack
+    found_past = walk_past (nexts es) N in_nexts (blanks N v) v (root ∷ []) [] on_stack
 
     pub connected_small : (x : ℕ) → Connected (Joins es) root x → x < N
     connected_small x here = low
     connected_small x (onward c j) = (inside _ x j).1
     connected_small x (backward c j) = (inside x _ j).0
 
-    ends : Ended (nexts Both es) N in_nexts v (root ∷ []) marks
-    ends = ended (nexts Both es) N in_nexts (blanks N v) v (root ∷ []) [] long (omega arith) on_stack (λ a b h m. inl (⊎_elim (λ j. sym (shut a b j) ∙ h) (λ j. shut b a j ∙ h) (either_way a b m)))
+    ends : Ended (nexts es) N in_nexts v (root ∷ []) marks
+    ends = ended (nexts es) N in_nexts (blanks N v) v (root ∷ []) [] long (omega arith) on_stack (λ a b h m. inl (⊎_elim (λ j. sym (shut a b j) ∙ h) (λ j. shut b a j ∙ h) (nexts_joined es a b m)))
 
     reaches : {x : ℕ} → Connected (Joins es) root x → get_or marks x false ≡ true
     reaches here = ends.came root (inr (inl refl))
-    reaches (onward {b} {c} w j) = ends.closed b c (reaches w) (among_left (targets es b) (sources es b) c (joins_among es b c j))
-    reaches (backward {b} {c} w j) = ends.closed b c (reaches w) (among_right (targets es b) (sources es b) c (joins_sources es c b j))
+    reaches (onward {b} {c} w j) = ends.closed b c (reaches w) (among_left c (targets es b) (sources es b) (joins_seen Outgoing es b c j))
+    reaches (backward {b} {c} w j) = ends.closed b c (reaches w) (among_right c (targets es b) (sources es b) (joins_seen Incoming es b c j))
 
     pub found_all : (x : ℕ) → Connected (Joins es) root x → Among x found
     found_all x c = ⊎_elim (λ was. absurd (both_ways _ (unfound es v shut root new c) was)) (λ a. a) (tied.to x (reaches c))
 
     -- what is marked was marked, or is connected with the root
     pub marked_only : (x : ℕ) → get_or marks x false ≡ true → (get_or v x false ≡ true) ⊎ Connected (Joins es) root x
-    marked_only x h = only (nexts Both es) N in_nexts (λ y. Connected (Joins es) root y) (λ a b c m. ⊎_elim (λ j. onward c j) (λ j. backward c j) (either_way a b m)) (blanks N v) v (root ∷ []) [] (λ y m. ⊎_elim (λ (is : y ≡ root). subst (λ i. Connected (Joins es) root i) (sym is) here) (λ z. absurd z) m) x h
+    marked_only x h = only (nexts es) N in_nexts (λ y. Connected (Joins es) root y) (λ a b c m. ⊎_elim (λ j. onward c j) (λ j. backward c j) (nexts_joined es a b m)) (blanks N v) v (root ∷ []) [] (λ y m. ⊎_elim (λ (is : y ≡ root). subst (λ i. Connected (Joins es) root i) (sym is) here) (λ z. absurd z) m) x h
 
     -- the walk leaves whole subgraphs again
     pub shut_again : Shut es marks
     shut_again x y j =
         ⊎_elim
-        (λ (h : get_or marks x false ≡ true). h ∙ sym (ends.closed x y h (among_left (targets es x) (sources es x) y (joins_among es x y j))))
+        (λ (h : get_or marks x false ≡ true). h ∙ sym (ends.closed x y h (among_left y (targets es x) (sources es x) (joins_seen Outgoing es x y j))))
         (λ (h : get_or marks x false ≡ false).
         ⊎_elim
-        (λ (k : get_or marks y false ≡ true). absurd (both_ways _ h (ends.closed y x k (among_right (targets es y) (sources es y) x (joins_sources es x y j)))))
+        (λ (k : get_or marks y false ≡ true). absurd (both_ways _ h (ends.closed y x k (among_right x (targets es y) (sources es y) (joins_seen Incoming es y x j)))))
         (λ (k : get_or marks y false ≡ false). h ∙ sym k)
         (cases_Bool (get_or marks y false)))
         (cases_Bool (get_or marks x false))
@@ -218,19 +178,19 @@ module _ (es : List Edge) (N : ℕ) (inside : (x y : ℕ) → Joins es x y → (
       found_only x a = ⊎_elim (λ was. absurd (fresh_found x a was)) (λ c. c) (marked_only x (tied.from x a))
         where
           fresh_found : (x : ℕ) → Among x found → get_or v x false ≡ true → ⊥
-          fresh_found x a was = (kept (nexts Both es) N in_nexts (λ v' o. ((y : ℕ) → get_or v y false ≡ true → get_or v' y false ≡ true) × ((y : ℕ) → Among y o → get_or v y false ≡ true → ⊥))
+          fresh_found x a was = (kept (nexts es) N in_nexts (λ v' o. ((y : ℕ) → get_or v y false ≡ true → get_or v' y false ≡ true) × ((y : ℕ) → Among y o → get_or v y false ≡ true → ⊥))
               (λ v' o n small no' q. (λ y h. ⊎_elim (λ (is : y ≡ n). absurd (both_ways _ no' (subst (λ i. get_or v' i false ≡ true) is (q.0 y h)))) (λ (ne : y ≡ n → ⊥). get_or-set_other v' n y true false ne ∙ q.0 y h) (cases_eq y n), λ y b h. ⊎_elim (λ (is : y ≡ n). both_ways _ no' (q.0 n (subst (λ i. get_or v i false ≡ true) is h))) (λ b'. q.1 y b' h) b))
               (blanks N v) v (root ∷ []) [] on_stack (λ y h. h, λ y b h. absurd b)).1 x a was
 
       pub begins : State es N (λ x. Connected (Joins es) root x) connected_small (λ x y j c. onward c j) (λ x y j c. backward c j) w (starts es found) []
       begins = record {
         long = long-w;
-        inside = λ m a. found_only m (starts_only es found m a).0;
-        readies = λ m a. is_empty_in (sources es m) w (starts_only es found m a).1;
+        inside = λ m a. found_only m (filter_only (λ n. is_empty (sources es n)) found m a).0;
+        readies = λ m a. is_empty_in (sources es m) w (filter_only (λ n. is_empty (sources es n)) found m a).1;
         noted = λ x c h. absurd (unappended x c h);
         marked = λ x a. absurd a;
         ordered = tt;
-        covered = λ m c h. inr (starts_has es found m (found_all m c) (is_empty_from (sources es m) (λ y a. unappended y (backward c (sources_joins es y m a)) (all_in_each (sources es m) w y h a))));
+        covered = λ m c h. inr (filter_has (λ n. is_empty (sources es n)) found m (found_all m c) (is_empty_from (sources es m) (λ y a. unappended y (backward c (seen_joins Incoming es m y a)) (all_in_each (sources es m) w y h a))));
       }
 
       pub end : State es N (λ x. Connected (Joins es) root x) connected_small (λ x y j c. onward c j) (λ x y j c. backward c j) (sorted_from es N v w root).visited [] (sorted_from es N v w root).order
@@ -256,5 +216,5 @@ module _ (es : List Edge) (N : ℕ) (inside : (x y : ℕ) → Joins es x y → (
 
       pub order_size : length (sorted_from es N v w root).order + blanks N (sorted_from es N v w root).visited ≤ blanks N w
       order_size =
-          walked_size (λ n u st. ready es (targets es n) u st) N (blanks N w) (λ n u st y a. ⊎_elim (λ p. inl (inside n y (among_joins es n y p.0)).1) (λ b. inr b) (stacked_only (is_ready es u) (targets es n) st y a))
+          walked_size (λ n u st. ready es (targets es n) u st) N (blanks N w) (λ n u st y a. ⊎_elim (λ p. inl (inside n y (seen_joins Outgoing es n y p.0)).1) (λ b. inr b) (stacked_only (is_ready es u) (targets es n) st y a))
           (blanks N w) (starts es found) w [] long-w (λ y a. connected_small y (begins.inside y a)) (omega arith)

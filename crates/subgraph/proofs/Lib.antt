@@ -1,15 +1,15 @@
+pub mod Lists
 pub mod Sorting
 pub mod Topological
 pub mod Components
 pub mod Alike
 pub mod Partitions
 pub mod InTurn
-pub mod Placing
 pub mod Standing
 pub mod Partitioning
 pub mod Twins
 pub mod Told
-pub mod WorkTable
 pub mod Wholes
 pub mod Alone
 pub mod AllNodes
+pub mod WorkTable

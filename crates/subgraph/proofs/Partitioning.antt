@@ -1,26 +1,23 @@
 -- One turn of the loop over the roots.
-use Rattle.std.proofs.Common.{◌≡◌, ℕ, ◌+◌, ◌<◌, ◌≤◌, Bool, true, false, List, [], ◌++◌, reverse, length, get_or, sym, ap, ◌∙◌, subst, arith}
-use Rattle.std.proofs.lemmas.List.{length-append}
+use Rattle.std.proofs.Common.{◌≡◌, ℕ, ◌+◌, ◌<◌, ◌≤◌, Bool, true, false, List, [], ◌++◌, reverse, length, sym, ap, ◌∙◌, subst, arith}
+use Rattle.std.proofs.lemmas.List.{length-append, length-reverse, reverse-append, reverse-reverse}
 use Rattle.std.proofs.lemmas.Bool.{cond-true, cond-false}
 use Rattle.records.specs.declared.edge.Edge.{Edge}
-use Rattle.records.specs.Walks.{Among, Joins, Acyclic, Touched}
 use Rattle.tables.specs.Filled.{Blank}
 use Rattle.tables.specs.Steps.{Below}
-use Rattle.tables.proofs.LatestLaws.{latest_reversed}
 use Rattle.tables.proofs.Marking.{blanks_le}
 use Rattle.graph.specs.declared.raw.RawInstGraph.{RawInstGraph}
 use Rattle.graph.specs.Model.{model}
-use Rattle.walks.proofs.Seeing.{edges_inside, few_nodes}
+use Rattle.graph.proofs.Sound.{sound}
+use Rattle.walks.proofs.Seeing.{edges_inside}
 use Rattle.subgraph.specs.declared.places.Subgraphs.{Subgraphs}
-use Rattle.subgraph.specs.Orders.{Ordered, found_from, sorted_from, Shut, NoMore}
-use Rattle.subgraph.specs.Partitions.{Partition, joined, begins, turn, parted, partition}
-use Rattle.subgraph.specs.Places.{order_of, in_turn, placed, Filled, Placed}
-use Rattle.subgraph.specs.Subgraphs.{in_order, Lawful}
-use Rattle.subgraph.proofs.InTurn.{in_order_lem, somewhere_in, in_somewhere}
-use Rattle.subgraph.proofs.Partitions.{Tables, blank_tables, parted_tables, parted_count, Roomy, joined_roomy, parted_roomy, order_below, begins_new, parts}
-use Rattle.subgraph.proofs.Standing.{standing}
+use Rattle.subgraph.specs.Orders.{found_from, sorted_from, Shut, NoMore}
+use Rattle.subgraph.specs.Partitions.{Partition, joined, begins, turn, parted}
+use Rattle.subgraph.specs.Places.{in_turn, placed, Filled}
+use Rattle.subgraph.specs.Subgraphs.{in_order}
+use Rattle.subgraph.proofs.Partitions.{Tables, blank_tables, parted_tables, parted_count, Roomy, joined_roomy, parted_roomy, order_below, begins_new}
 
-pub filled_joined : (es : List Edge) (N n : ℕ) (p : Partition) (f a : List Bool) (s : Subgraphs) → Filled p f a s → (o : List ℕ) (f' a' : List Bool) (s' : Subgraphs) → f' ≡ (found_from es N f n).visited → a' ≡ (sorted_from es N f a n).visited → o ≡ (sorted_from es N f a n).order → order_of s' ≡ o ++ order_of s → s'.places ≡ placed s.count o s.places → s'.count ≡ s.count + 1 → begins es f n ≡ true → Filled (turn es N n p) f' a' s'
+pub filled_joined : (es : List Edge) (N n : ℕ) (p : Partition) (f a : List Bool) (s : Subgraphs) → Filled p f a s → (o : List ℕ) (f' a' : List Bool) (s' : Subgraphs) → f' ≡ (found_from es N f n).visited → a' ≡ (sorted_from es N f a n).visited → o ≡ (sorted_from es N f a n).order → in_order s' ≡ in_order s ++ reverse o → s'.places ≡ placed s.count o s.places → s'.count ≡ s.count + 1 → begins es f n ≡ true → Filled (turn es N n p) f' a' s'
 filled_joined es N n p f a s fl o f' a' s' mf ma mo ord pl cnt yes' =
     let io : o ≡ (sorted_from es N p.found p.appended n).order = mo ∙ (λ i. (sorted_from es N (fl.marks i) (fl.turns i) n).order) in
     let was = fl.count in
@@ -29,7 +26,7 @@ filled_joined es N n p f a s fl o f' a' s' mf ma mo ord pl cnt yes' =
       marks = mf ∙ ap (λ u. (found_from es N u n).visited) fl.marks;
       turns = ma ∙ (λ i. (sorted_from es N (fl.marks i) (fl.turns i) n).visited);
       count = omega arith;
-      order = ord ∙ (λ i. io i ++ fl.order i);
+      order = ap reverse ord ∙ reverse-append (in_order s) (reverse o) ∙ ap (λ l. l ++ reverse (in_order s)) (reverse-reverse o) ∙ (λ i. io i ++ fl.order i);
       places_are = pl ∙ (λ i. placed (fl.count i) (io i) (fl.places_are i));
     })
 
@@ -40,13 +37,10 @@ filled_passed es N n p f a s fl no' =
 
 -- what order_from and add ask for
 pub record Root (g : RawInstGraph) (n : ℕ) (f a : List Bool) (s : Subgraphs) : Type 0 where
-  pub found_room : length (model g).nodes ≤ length f
-  pub appended_room : length (model g).nodes ≤ length a
   pub shut : Shut (model g).edges f
-  pub new : get_or f n false ≡ false
   pub within : NoMore (length (model g).nodes) a f
   pub below : Below 1024 (sorted_from (model g).edges (length (model g).nodes) f a n).order
-  pub room : length (sorted_from (model g).edges (length (model g).nodes) f a n).order + length (order_of s) ≤ 1024
+  pub room : length (sorted_from (model g).edges (length (model g).nodes) f a n).order + length (in_order s) ≤ 1024
   pub count : s.count < 1024
 
 module _ (g : RawInstGraph) (v w : List Bool) (lv : length (model g).nodes ≤ length v) (lw : length (model g).nodes ≤ length w) (bv : Blank (length (model g).nodes) v) (bw : Blank (length (model g).nodes) w) where
@@ -70,32 +64,14 @@ module _ (g : RawInstGraph) (v w : List Bool) (lv : length (model g).nodes ≤ l
       let after = joined_roomy es N (edges_inside g) n q low new tq rq in
       let both = length-append (sorted_from es N f a n).order (in_turn p.orders) in
       let ord = ap length fl.order in
+      let size = length-reverse (in_order s) in
       let many = parted_count es N (edges_inside g) n start in
       let is = fl.count in
-      let fit = few_nodes g in
+      let fit = (sound g).few_nodes in
       record {
-        found_room = tq.long;
-        appended_room = tq.room;
         shut = tq.shut;
-        new = new;
         within = tq.within;
         below = order_below es N (edges_inside g) n q 1024 fit low new tq;
         room = omega arith;
         count = omega arith;
-      }
-
-  pub lawful : (f a : List Bool) (s : Subgraphs) → Filled (partition (model g).edges (length (model g).nodes) v w) f a s → Acyclic (Joins (model g).edges) → Lawful (Joins (model g).edges) s
-  lawful f a s fl acyclic =
-      let es = (model g).edges in
-      let N = length (model g).nodes in
-      let os = (partition es N v w).orders in
-      let all = parts es N (edges_inside g) acyclic v w lv lw bv bw in
-      let fit = s.order_fits in
-      let room = s.order_room in
-      let flat : reverse (in_order s) ≡ in_turn os = latest_reversed 0 s.ordered s.order (omega arith) ∙ fl.order in
-      record {
-        acyclic = acyclic;
-        stand = subst (Placed (Joins es)) (sym fl.places_are) (standing es N (edges_inside g) (few_nodes g) os all);
-        ordered = subst (Ordered (Joins es)) (sym flat) (in_order_lem (Joins es) os all.apart);
-        touched = subst (λ (xs : List ℕ). (x : ℕ) → (Among x xs → Touched (Joins es) x) × (Touched (Joins es) x → Among x xs)) (sym flat) (λ x. (λ a. all.only x (in_somewhere os x a), λ t. somewhere_in os x (all.whole x t)));
       }

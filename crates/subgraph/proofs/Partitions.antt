@@ -3,18 +3,20 @@ use Rattle.std.proofs.Common.{◌≡◌, ℕ, zero, suc, ◌+◌, ◌<◌, ◌�
 use Rattle.std.proofs.lemmas.List.{length-append}
 use Rattle.std.proofs.lemmas.Bool.{cases_eq, cases_Bool, cond-true, cond-false, both_ways, and_parts, and_from, not-true}
 use Rattle.records.specs.declared.edge.Edge.{Edge}
+use Rattle.records.specs.declared.edge.Direction.TheVariants.{Outgoing, Incoming}
 use Rattle.records.specs.Walks.{Among, Joins, Acyclic, Connected, Touched}
 use Rattle.records.specs.Walks.Connected.{here, onward, backward}
 use Rattle.tables.specs.Filled.{Blank}
 use Rattle.tables.specs.Marks.{blanks}
 use Rattle.tables.specs.Steps.{Below}
 use Rattle.walks.specs.Exploring.{targets, sources}
-use Rattle.walks.proofs.Seeing.{joins_among, among_joins, joins_sources, sources_joins}
+use Rattle.graph.proofs.Seen.{joins_seen, seen_joins}
 use Rattle.walks.proofs.Closure.{Past}
 use Rattle.subgraph.specs.Sorting.{is_ready}
 use Rattle.subgraph.specs.Orders.{is_empty, sorted_from, Shut, NoMore}
 use Rattle.subgraph.specs.Partitions.{root, Partition, joined, begins, turn, parted}
 use Rattle.subgraph.specs.Places.{in_turn}
+use Rattle.subgraph.proofs.Lists.{below_each}
 use Rattle.subgraph.proofs.Sorting.{all_in_each}
 use Rattle.subgraph.proofs.Topological.{all_done}
 use Rattle.subgraph.proofs.Components.{Topological, tied, unfound, found_past, connected_small, found_all, marked_only, shut_again, end, topological, within_again, order_size}
@@ -57,7 +59,7 @@ some (x ∷ xs) h = (x, inl refl)
 root_touched : (es : List Edge) (n : ℕ) → root es n ≡ true → Touched (Joins es) n
 root_touched es n h =
     let t = some (targets es n) (not-true _ (and_parts (is_empty (sources es n)) _ h).1) in
-    (t.0, inl (among_joins es n t.0 t.1))
+    (t.0, inl (seen_joins Outgoing es n t.0 t.1))
 
 -- what is connected with a touched node is touched
 connected_touched : (es : List Edge) (r : ℕ) → Touched (Joins es) r → {x : ℕ} → Connected (Joins es) r x → Touched (Joins es) x
@@ -143,10 +145,6 @@ module _ (es : List Edge) (N : ℕ) (inside : (x y : ℕ) → Joins es x y → (
       (λ (no' : begins es q.found n ≡ false). subst Roomy (sym (cond-false _ (joined es N n q) q no')) rq)
       (cases_Bool (begins es q.found n))
 
-  below_each : (m : ℕ) (o : List ℕ) → ((x : ℕ) → Among x o → x < m) → Below m o
-  below_each m [] h = tt
-  below_each m (x ∷ o) h = (h x (inl refl), below_each m o (λ y a. h y (inr a)))
-
   pub order_below : (n : ℕ) (p : Partition) (m : ℕ) → N ≤ m → n < N → get_or p.found n false ≡ false → Tables p → Below m (sorted_from es N p.found p.appended n).order
   order_below n p m most low new t = below_each m _ (λ x a.
       let c = ((end es N inside n low p.found t.long t.shut new p.appended t.room t.within).marked x a).1 in
@@ -194,12 +192,12 @@ module _ (es : List Edge) (N : ℕ) (inside : (x y : ℕ) → Joins es x y → (
         small x (y, inr j) = (inside y x j).1
 
         out : (m : ℕ) → (sources es m ≡ sources es m) → is_empty (sources es m) ≡ true → Touched (Joins es) m → root es m ≡ true
-        out m _ none (y, inl j) = and_from (is_empty (sources es m)) (not (is_empty (targets es m))) none (ap not (filled (targets es m) y (joins_among es m y j)))
+        out m _ none (y, inl j) = and_from (is_empty (sources es m)) (not (is_empty (targets es m))) none (ap not (filled (targets es m) y (joins_seen Outgoing es m y j)))
           where
             filled : (xs : List ℕ) (y : ℕ) → Among y xs → is_empty xs ≡ false
             filled [] y a = absurd a
             filled (x ∷ xs) y a = refl
-        out m _ none (y, inr j) = absurd (empty (sources es m) y none (joins_sources es y m j))
+        out m _ none (y, inr j) = absurd (empty (sources es m) y none (joins_seen Incoming es m y j))
           where
             empty : (xs : List ℕ) (y : ℕ) → is_empty xs ≡ true → Among y xs → ⊥
             empty [] y h a = a
@@ -209,7 +207,7 @@ module _ (es : List Edge) (N : ℕ) (inside : (x y : ℕ) → Joins es x y → (
         done m t h =
             ⊎_elim
             (λ (none : is_empty (sources es m) ≡ true). roots m (small m t) (out m refl none t))
-            (λ (has : is_empty (sources es m) ≡ false). let s = some (sources es m) has in sym (shut s.0 m (sources_joins es s.0 m s.1)) ∙ all_in_each (sources es m) v s.0 h s.1)
+            (λ (has : is_empty (sources es m) ≡ false). let s = some (sources es m) has in sym (shut s.0 m (seen_joins Incoming es m s.0 s.1)) ∙ all_in_each (sources es m) v s.0 h s.1)
             (cases_Bool (is_empty (sources es m)))
 
     pub parts : (v w : List Bool) → N ≤ length v → N ≤ length w → Blank N v → Blank N w → Parts (Joins es) (parted es N N (record { found = v; appended = w; orders = [] })).orders

@@ -1,29 +1,22 @@
 -- Lists of which each node is marked.
-use Rattle.std.proofs.Common.{◌≡◌, ℕ, Bool, true, false, List, [], ◌∷◌, get_or, sym, refl, ap, ◌∙◌, inl, inr, ⊎_elim}
-use Rattle.std.proofs.lemmas.Bool.{cases_Bool, cond-true, cond-false, both_ways}
+use Rattle.std.proofs.Common.{◌≡◌, ℕ, Bool, true, false, ◌&&◌, List, [], ◌∷◌, get_or, sym, refl, ap, ◌∙◌, inl, inr, ⊎_elim}
+use Rattle.std.proofs.lemmas.Bool.{cases_Bool, both_ways, and_parts, and_from}
 use Rattle.records.specs.Walks.{Among}
 use Rattle.subgraph.specs.Sorting.{all_in}
 
 pub all_in_each : (xs : List ℕ) (v : List Bool) (y : ℕ) → all_in xs v ≡ true → Among y xs → get_or v y false ≡ true
 all_in_each [] v y h a = absurd a
-all_in_each (x ∷ xs) v y h a =
-    ⊎_elim
-    (λ (t : get_or v x false ≡ true). at t (all_in_each xs v y (sym (cond-true _ (all_in xs v) false t) ∙ h)) a)
-    (λ (f : get_or v x false ≡ false). absurd (both_ways _ (cond-false _ (all_in xs v) false f) h))
-    (cases_Bool (get_or v x false))
-  where
-    at : get_or v x false ≡ true → (Among y xs → get_or v y false ≡ true) → Among y (x ∷ xs) → get_or v y false ≡ true
-    at t deeper (inl is) = ap (λ i. get_or v i false) is ∙ t
-    at t deeper (inr m) = deeper m
+all_in_each (x ∷ xs) v y h (inl is) = ap (λ i. get_or v i false) is ∙ (and_parts _ _ h).0
+all_in_each (x ∷ xs) v y h (inr a) = all_in_each xs v y (and_parts (get_or v x false) _ h).1 a
 
 pub all_in_from : (xs : List ℕ) (v : List Bool) → ((y : ℕ) → Among y xs → get_or v y false ≡ true) → all_in xs v ≡ true
 all_in_from [] v h = refl
-all_in_from (x ∷ xs) v h = cond-true _ (all_in xs v) false (h x (inl refl)) ∙ all_in_from xs v (λ y a. h y (inr a))
+all_in_from (x ∷ xs) v h = and_from _ _ (h x (inl refl)) (all_in_from xs v (λ y a. h y (inr a)))
 
 pub all_in_not : (xs : List ℕ) (v : List Bool) → all_in xs v ≡ false → (y : ℕ) × Among y xs × (get_or v y false ≡ false)
 all_in_not [] v h = absurd (both_ways true h refl)
 all_in_not (x ∷ xs) v h =
     ⊎_elim
-    (λ (t : get_or v x false ≡ true). let deeper = all_in_not xs v (sym (cond-true _ (all_in xs v) false t) ∙ h) in (deeper.0, inr deeper.1, deeper.2))
+    (λ (t : get_or v x false ≡ true). let deeper = all_in_not xs v (ap (λ b. b && all_in xs v) (sym t) ∙ h) in (deeper.0, inr deeper.1, deeper.2))
     (λ (f : get_or v x false ≡ false). (x, inl refl, f))
     (cases_Bool (get_or v x false))

@@ -3,11 +3,12 @@ use Rattle.std.proofs.Common.{◌≡◌, ℕ, zero, suc, ◌<◌, ◌≤◌, Boo
 use Rattle.std.proofs.lemmas.List.{get_or-set_same, length-set, get_or-replicate, length-replicate}
 use Rattle.std.proofs.lemmas.Bool.{cases_Bool, both_ways}
 use Rattle.records.specs.declared.edge.Edge.{Edge}
+use Rattle.records.specs.declared.edge.Direction.TheVariants.{Outgoing, Incoming}
 use Rattle.records.specs.Walks.{Among, Joins, Leads, Acyclic}
 use Rattle.tables.specs.Marks.{blanks}
 use Rattle.tables.proofs.Marking.{blanks_set, no_blanks, blanks_le}
 use Rattle.walks.specs.Exploring.{targets, sources}
-use Rattle.walks.proofs.Seeing.{joins_among, among_joins, joins_sources, sources_joins}
+use Rattle.graph.proofs.Seen.{joins_seen, seen_joins}
 use Rattle.walks.proofs.Exploring.{stacked_keeps, stacked_has, stacked_only, fresh_none, walk_cases, Fresh}
 use Rattle.walks.proofs.Closure.{Covered, visited_set, set_visited}
 use Rattle.subgraph.specs.Sorting.{all_in, is_ready, ready, sorted}
@@ -61,7 +62,7 @@ module _ (es : List Edge) (N : ℕ) (C : ℕ → Type 0) (small : (x : ℕ) → 
         let gap = all_in_not (sources es m) v no' in
         let y = gap.0 in
         ⊎_elim
-        (λ (is : y ≡ n). inr (stacked_has (is_ready es (set v n true)) (targets es n) rest m (joins_among es n m (sources_joins es n m (subst (λ i. Among i (sources es m)) is gap.1))) h))
+        (λ (is : y ≡ n). inr (stacked_has (is_ready es (set v n true)) (targets es n) rest m (joins_seen Outgoing es n m (seen_joins Incoming es m n (subst (λ i. Among i (sources es m)) is gap.1))) h))
         (λ was. absurd (both_ways _ gap.2 was))
         (set_visited v n y (all_in_each (sources es m) (set v n true) y h gap.1)))
         (cases_Bool (all_in (sources es m) v))
@@ -76,7 +77,7 @@ module _ (es : List Edge) (N : ℕ) (C : ℕ → Type 0) (small : (x : ℕ) → 
           noted = λ x cx h. ⊎_elim (λ (is : x ≡ n). inl is) (λ was. inr (s.noted x cx was)) (set_visited v n x h);
           marked = λ x a. ⊎_elim (λ (is : x ≡ n). (ap (λ i. get_or (set v n true) i false) is ∙ get_or-set_same v n true false in_table, subst C (sym is) c)) (λ b. (visited_set v n x in_table (s.marked x b).0, (s.marked x b).1)) a;
           ordered = (
-            λ x j. s.noted x (back x n j c) (all_in_each (sources es n) v x (s.readies n f.among) (joins_sources es x n j)),
+            λ x j. s.noted x (back x n j c) (all_in_each (sources es n) v x (s.readies n f.among) (joins_seen Incoming es n x j)),
             λ a. both_ways _ f.new (s.marked n a).0,
             s.ordered,
           );
@@ -84,7 +85,7 @@ module _ (es : List Edge) (N : ℕ) (C : ℕ → Type 0) (small : (x : ℕ) → 
         }
       where
         target : (m : ℕ) → Among m (targets es n) → Joins es n m
-        target m a = among_joins es n m a
+        target m a = seen_joins Outgoing es n m a
 
   pub runs : (k : ℕ) (v : List Bool) (st o : List ℕ) → blanks N v ≤ k → State v st o → State (sorted es k st v o).visited [] (sorted es k st v o).order
   runs zero v st o few s =
@@ -105,7 +106,7 @@ module _ (es : List Edge) (N : ℕ) (C : ℕ → Type 0) (small : (x : ℕ) → 
     before x c no' =
         ⊎_elim
         (λ h. absurd (both_ways _ no' (done x c h)))
-        (λ h. let gap = all_in_not (sources es x) t h in (gap.0, sources_joins es gap.0 x gap.1, gap.2))
+        (λ h. let gap = all_in_not (sources es x) t h in (gap.0, seen_joins Incoming es x gap.0 gap.1, gap.2))
         (cases_Bool (all_in (sources es x) t))
 
     on_from : {x y : ℕ} (z : ℕ) → Joins es y x → (x ≡ z) ⊎ Leads (Joins es) x z → Leads (Joins es) y z

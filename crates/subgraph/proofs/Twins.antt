@@ -2,12 +2,12 @@
 use Rattle.std.proofs.Common.{◌≡◌, ℕ, zero, suc, ◌<◌, ◌≤◌, Bool, true, false, not, ◌&&◌, List, [], ◌∷◌, length, get_or, sym, refl, ap, ◌∙◌, subst, inl, inr, ⊎_elim, arith}
 use Rattle.std.proofs.lemmas.Bool.{cases_Bool, cond-true, cond-false}
 use Rattle.records.specs.declared.edge.Edge.{Edge}
+use Rattle.records.specs.declared.edge.Direction.TheVariants.{Outgoing, Incoming}
 use Rattle.records.specs.Walks.{Joins}
 use Rattle.tables.specs.Filled.{Blank}
 use Rattle.tables.specs.Marks.{blanks}
-use Rattle.walks.specs.declared.explore.Ways.TheVariants.{Both}
 use Rattle.walks.specs.Exploring.{targets, sources, nexts, piled, walked}
-use Rattle.walks.proofs.Seeing.{among_joins, sources_joins}
+use Rattle.graph.proofs.Seen.{seen_joins}
 use Rattle.walks.proofs.Exploring.{piled_only, stacked_only, below_at}
 use Rattle.subgraph.specs.Sorting.{is_ready, ready}
 use Rattle.subgraph.specs.Orders.{starts, found_from, sorted_from}
@@ -25,9 +25,9 @@ module _ (es : List Edge) (N : ℕ) (inside : (x y : ℕ) → Joins es x y → (
 
   found_twin : (n : ℕ) (p q : Partition) → n < N → Tables es N inside p → Tables es N inside q → Twin p q → Alike N (found_from es N p.found n) (found_from es N q.found n)
   found_twin n p q low s t w =
-      same_turns N (λ m v st. piled (nexts Both es m) v st)
-      (λ m v st y a. ⊎_elim (λ b. inl (in_nexts es N inside m y b)) (λ b. inr b) (piled_only (nexts Both es m) v st y a))
-      (λ m v u st a. stacked_alike N (λ y. not (get_or v y false)) (λ y. not (get_or u y false)) (nexts Both es m) st (λ y b. ap not (a y (in_nexts es N inside m y b))))
+      same_turns N (λ m v st. piled (nexts es m) v st)
+      (λ m v st y a. ⊎_elim (λ b. inl (in_nexts es N inside m y b)) (λ b. inr b) (piled_only (nexts es m) v st y a))
+      (λ m v u st a. stacked_alike N (λ y. not (get_or v y false)) (λ y. not (get_or u y false)) (nexts es m) st (λ y b. ap not (a y (in_nexts es N inside m y b))))
       (blanks N p.found) (blanks N q.found) (n ∷ []) p.found q.found [] s.long t.long (omega arith) (omega arith)
       (λ y a. ⊎_elim (λ (is : y ≡ n). subst (λ i. i < N) (sym is) low) (λ b. absurd b) a) w.found
 
@@ -38,8 +38,8 @@ module _ (es : List Edge) (N : ℕ) (inside : (x y : ℕ) → Joins es x y → (
       subst (λ st. Alike N (sorted_from es N p.found p.appended n) (walked (λ m v st. ready es (targets es m) v st) (blanks N q.appended) st q.appended []))
       (ap (starts es) (found_twin n p q low s t w).turns)
       (same_turns N (λ m v st. ready es (targets es m) v st)
-      (λ m v st y a. ⊎_elim (λ b. inl (inside m y (among_joins es m y b.0)).1) (λ b. inr b) (stacked_only (is_ready es v) (targets es m) st y a))
-      (λ m v u st a. stacked_alike N (is_ready es v) (is_ready es u) (targets es m) st (λ y b. all_alike N v u a (sources es y) (λ z c. (inside z y (sources_joins es z y c)).0)))
+      (λ m v st y a. ⊎_elim (λ b. inl (inside m y (seen_joins Outgoing es m y b.0)).1) (λ b. inr b) (stacked_only (is_ready es v) (targets es m) st y a))
+      (λ m v u st a. stacked_alike N (is_ready es v) (is_ready es u) (targets es m) st (λ y b. all_alike N v u a (sources es y) (λ z c. (inside z y (seen_joins Incoming es y z c)).0)))
       (blanks N p.appended) (blanks N q.appended) begin p.appended q.appended [] s.room t.room (omega arith) (omega arith) (λ y a. below_at N begin y below a) w.appended)
 
   turn_twin : (n : ℕ) (p q : Partition) → n < N → Tables es N inside p → Tables es N inside q → Twin p q → Twin (turn es N n p) (turn es N n q)

@@ -1,6 +1,7 @@
 -- The order of all nodes has each of them once, and each edge's source before its target.
-use Rattle.std.proofs.Common.{◌≡◌, ℕ, zero, suc, ◌+◌, ◌-◌, ◌<◌, ◌≤◌, Bool, true, false, ◌&&◌, ◌⊎◌, List, [], ◌∷◌, ◌++◌, reverse, length, get_or, filter, sym, refl, ap, ◌∙◌, subst, inl, inr, ⊎_elim, arith}
+use Rattle.std.proofs.Common.{◌≡◌, ℕ, zero, suc, ◌+◌, ◌-◌, ◌<◌, ◌≤◌, Bool, true, false, cond, ◌&&◌, ◌⊎◌, List, [], ◌∷◌, ◌++◌, reverse, length, get_or, filter, sym, refl, ap, ◌∙◌, subst, inl, inr, ⊎_elim, arith}
 use Rattle.std.proofs.lemmas.List.{reverse-append, append-nil, length-append}
+use Rattle.std.proofs.lemmas.List.Elements.{filter-append}
 use Rattle.std.proofs.lemmas.Bool.{cases_eq, cases_Bool, cond-true, cond-false}
 use Rattle.std.specs.List.{range_with_len}
 use Rattle.records.specs.declared.edge.Edge.{Edge}
@@ -10,6 +11,7 @@ use Rattle.records.specs.Walks.{Among, Touched, Joins}
 use Rattle.graph.specs.Order.{stands_at, Ends, Within, Complete, Once, Topological}
 use Rattle.subgraph.specs.Orders.{Ordered, is_empty}
 use Rattle.subgraph.specs.Wholes.{alone, singletons, whole_order}
+use Rattle.subgraph.proofs.Lists.{filter_has, filter_only}
 use Rattle.graph.proofs.Seen.{seen_joins, joins_seen}
 use Rattle.walks.specs.Exploring.{targets, sources}
 use Rattle.graph.proofs.Standings.{stands_here, stands_inside, stands_left, stands_right, among_left, among_right, among_either, among_reverse, among_reversed, get_or_among, once_append, once_one, once_cons, order_length}
@@ -59,90 +61,55 @@ module _ (R : ℕ → ℕ → Type 0) where
       rest ne (inl e) = absurd (ne e)
       rest ne (inr k) = k
 
+-- ---- a row of numbers
+in_range : (a n k : ℕ) → Among k (range_with_len a n) → (a ≤ k) × (k < a + n)
+in_range a zero k m = absurd m
+in_range a (suc n) k (inl is) = (omega arith, omega arith)
+in_range a (suc n) k (inr m) = let r = in_range (a + 1) n k m in let low = r.0 in let high = r.1 in (omega arith, omega arith)
+
+range_in : (a n k : ℕ) → a ≤ k → k < a + n → Among k (range_with_len a n)
+range_in a zero k h l = absurd (omega arith)
+range_in a (suc n) k h l = ⊎_elim (λ (is : k ≡ a). inl is) (λ (ne : k ≡ a → ⊥). inr (range_in (a + 1) n k (omega arith) (omega arith))) (cases_eq k a)
+
+range_split : (a n d : ℕ) → range_with_len a (n + d) ≡ range_with_len a n ++ range_with_len (a + n) d
+range_split a zero d =
+    let none : 0 + d ≡ d = omega arith in
+    let here : a ≡ a + 0 = omega arith in
+    (λ i. range_with_len (here i) (none i))
+range_split a (suc n) d =
+    let more : suc n + d ≡ suc (n + d) = omega arith in
+    let on : a + 1 + n ≡ a + suc n = omega arith in
+    ap (range_with_len a) more ∙ ap (λ l. a ∷ l) (range_split (a + 1) n d ∙ ap (λ k. range_with_len (a + 1) n ++ range_with_len k d) on)
+
 module _ (p : ℕ → Bool) where
-  abbrev passing : ℕ → ℕ → List ℕ
-  passing a n = filter p (range_with_len a n)
+  passing_more : (n : ℕ) → filter p (range_with_len 0 (n + 1)) ≡ filter p (range_with_len 0 n) ++ cond (p n) (n ∷ []) []
+  passing_more n =
+      let here : 0 + n ≡ n = omega arith in
+      ap (filter p) (range_split 0 n 1) ∙ filter-append p (range_with_len 0 n) (range_with_len (0 + n) 1) ∙ ap (λ k. filter p (range_with_len 0 n) ++ filter p (k ∷ [])) here
 
-  passing_yes : (a n : ℕ) → p a ≡ true → passing a (suc n) ≡ a ∷ passing (a + 1) n
-  passing_yes a n e = cond-true (p a) (a ∷ passing (a + 1) n) (passing (a + 1) n) e
+  pub passing_taken : (n : ℕ) → p n ≡ true → filter p (range_with_len 0 (n + 1)) ≡ filter p (range_with_len 0 n) ++ n ∷ []
+  passing_taken n e = passing_more n ∙ ap (λ l. filter p (range_with_len 0 n) ++ l) (cond-true (p n) (n ∷ []) [] e)
 
-  passing_no : (a n : ℕ) → p a ≡ false → passing a (suc n) ≡ passing (a + 1) n
-  passing_no a n e = cond-false (p a) (a ∷ passing (a + 1) n) (passing (a + 1) n) e
-
-  pub record Passes (a n k : ℕ) : Type 0 where
-    pub from : a ≤ k
-    pub below : k < a + n
-    pub test : p k ≡ true
-
-  pub passing_passes : (a n k : ℕ) → Among k (passing a n) → Passes a n k
-  passing_passes a zero k m = absurd m
-  passing_passes a (suc n) k m =
-      ⊎_elim
-      (λ (e : p a ≡ true). taken e (λ r. passing_passes (a + 1) n k r) (subst (Among k) (passing_yes a n e) m))
-      (λ (e : p a ≡ false). weaker (passing_passes (a + 1) n k (subst (Among k) (passing_no a n e) m)))
-      (cases_Bool (p a))
-    where
-      weaker : Passes (a + 1) n k → Passes a (suc n) k
-      weaker r = let f = r.from in let b = r.below in record { from = omega arith; below = omega arith; test = r.test }
-
-      taken : p a ≡ true → (Among k (passing (a + 1) n) → Passes (a + 1) n k) → (k ≡ a) ⊎ Among k (passing (a + 1) n) → Passes a (suc n) k
-      taken e later (inl q) = record { from = omega arith; below = omega arith; test = ap p q ∙ e }
-      taken e later (inr r) = weaker (later r)
-
-  pub passes_passing : (a n k : ℕ) → a ≤ k → k < a + n → p k ≡ true → Among k (passing a n)
-  passes_passing a zero k h l t = absurd (omega arith)
-  passes_passing a (suc n) k h l t =
-      ⊎_elim
-      (λ (is : k ≡ a). subst (Among k) (sym (passing_yes a n (sym (ap p is) ∙ t))) (inl is))
-      (λ (ne : k ≡ a → ⊥).
-      let rest = passes_passing (a + 1) n k (omega arith) (omega arith) t in
-      ⊎_elim
-      (λ (e : p a ≡ true). subst (Among k) (sym (passing_yes a n e)) (inr rest))
-      (λ (e : p a ≡ false). subst (Among k) (sym (passing_no a n e)) rest)
-      (cases_Bool (p a)))
-      (cases_eq k a)
-
-  -- those of the first n + d, counted from a
-  passing_split : (a n d : ℕ) → passing a (n + d) ≡ passing a n ++ passing (a + n) d
-  passing_split a zero d =
-      let none : 0 + d ≡ d = omega arith in
-      let here : a ≡ a + 0 = omega arith in
-      ap (passing a) none ∙ ap (λ x. passing x d) here
-  passing_split a (suc n) d =
-      let more : suc n + d ≡ suc (n + d) = omega arith in
-      let on : a + 1 + n ≡ a + suc n = omega arith in
-      let rest : passing (a + 1) (n + d) ≡ passing (a + 1) n ++ passing (a + suc n) d = passing_split (a + 1) n d ∙ ap (λ x. passing (a + 1) n ++ passing x d) on in
-      ap (passing a) more
-      ∙ ⊎_elim
-      (λ (e : p a ≡ true). passing_yes a (n + d) e ∙ ap (λ l. a ∷ l) rest ∙ sym (ap (λ l. l ++ passing (a + suc n) d) (passing_yes a n e)))
-      (λ (e : p a ≡ false). passing_no a (n + d) e ∙ rest ∙ sym (ap (λ l. l ++ passing (a + suc n) d) (passing_no a n e)))
-      (cases_Bool (p a))
-
-  pub passing_taken : (n : ℕ) → p n ≡ true → passing 0 (n + 1) ≡ passing 0 n ++ n ∷ []
-  passing_taken n e = passing_split 0 n 1 ∙ ap (λ x. passing 0 n ++ passing x 1) (one n) ∙ ap (λ l. passing 0 n ++ l) (passing_yes n 0 e)
-    where
-      one : (n : ℕ) → 0 + n ≡ n
-      one n = omega arith
-
-  pub passing_left : (n : ℕ) → p n ≡ false → passing 0 (n + 1) ≡ passing 0 n
-  passing_left n e =
-      let one : 0 + n ≡ n = omega arith in
-      passing_split 0 n 1 ∙ ap (λ x. passing 0 n ++ passing x 1) one ∙ ap (λ l. passing 0 n ++ l) (passing_no n 0 e) ∙ append-nil (passing 0 n)
+  pub passing_left : (n : ℕ) → p n ≡ false → filter p (range_with_len 0 (n + 1)) ≡ filter p (range_with_len 0 n)
+  passing_left n e = passing_more n ∙ ap (λ l. filter p (range_with_len 0 n) ++ l) (cond-false (p n) (n ∷ []) [] e) ∙ append-nil (filter p (range_with_len 0 n))
 
   -- one that passes leaves fewer before it than there are in all
-  pub passing_room : (n k : ℕ) → k < n → p k ≡ true → length (passing 0 k) + 1 ≤ length (passing 0 n)
+  pub passing_room : (n k : ℕ) → k < n → p k ≡ true → length (filter p (range_with_len 0 k)) + 1 ≤ length (filter p (range_with_len 0 n))
   passing_room n k h e =
       let rest : n ≡ k + 1 + (n - (k + 1)) = omega arith in
-      let all = ap (λ x. length (passing 0 x)) rest ∙ ap length (passing_split 0 (k + 1) (n - (k + 1))) ∙ length-append (passing 0 (k + 1)) (passing (0 + (k + 1)) (n - (k + 1))) in
-      let some = ap length (passing_taken k e) ∙ length-append (passing 0 k) (k ∷ []) in
+      let front = filter p (range_with_len 0 (k + 1)) in
+      let back = filter p (range_with_len (0 + (k + 1)) (n - (k + 1))) in
+      let all = ap (λ x. length (filter p (range_with_len 0 x))) rest ∙ ap (λ l. length (filter p l)) (range_split 0 (k + 1) (n - (k + 1))) ∙ ap length (filter-append p (range_with_len 0 (k + 1)) (range_with_len (0 + (k + 1)) (n - (k + 1)))) ∙ length-append front back in
+      let some = ap length (passing_taken k e) ∙ length-append (filter p (range_with_len 0 k)) (k ∷ []) in
       omega arith
 
-  pub passing_once : (a n : ℕ) → Once (passing a n)
+  pub passing_once : (a n : ℕ) → Once (filter p (range_with_len a n))
   passing_once a zero = λ i h. absurd (omega arith)
   passing_once a (suc n) =
+      let rest = filter p (range_with_len (a + 1) n) in
       ⊎_elim
-      (λ (e : p a ≡ true). subst Once (sym (passing_yes a n e)) (once_cons a (passing (a + 1) n) (λ m. let f = (passing_passes (a + 1) n a m).from in omega arith) (passing_once (a + 1) n)))
-      (λ (e : p a ≡ false). subst Once (sym (passing_no a n e)) (passing_once (a + 1) n))
+      (λ (e : p a ≡ true). subst Once (sym (cond-true (p a) (a ∷ rest) rest e)) (once_cons a rest (λ m. let r = in_range (a + 1) n a (filter_only p (range_with_len (a + 1) n) a m).0 in let low = r.0 in omega arith) (passing_once (a + 1) n)))
+      (λ (e : p a ≡ false). subst Once (sym (cond-false (p a) (a ∷ rest) rest e)) (passing_once (a + 1) n))
       (cases_Bool (p a))
 
 -- a list that has an element is not empty, and one that is not empty has one
@@ -182,14 +149,14 @@ module _ (es : List Edge) where
     apart : (k : ℕ) → Among k (reverse flat) → Among k (singletons es n) → ⊥
     apart k l r =
         let no = touched_not_alone k (only k (among_reversed k flat l)) in
-        let yes' = (passing_passes (alone es) 0 n k r).test in
+        let yes' = (filter_only (alone es) (range_with_len 0 n) k r).1 in
         let z : ◌≡◌ {A = ℕ} 0 1 = cc in omega arith
 
     among_below : (k : ℕ) → Among k (whole_order es n flat) → k < n
     among_below k m =
         ⊎_elim
         (λ (l : Among k (reverse flat)). touched_below k (only k (among_reversed k flat l)))
-        (λ (r : Among k (singletons es n)). let b = (passing_passes (alone es) 0 n k r).below in omega arith)
+        (λ (r : Among k (singletons es n)). let b = (in_range 0 n k (filter_only (alone es) (range_with_len 0 n) k r).0).1 in omega arith)
         (among_either k (reverse flat) (singletons es n) m)
 
     pub whole_within : Within n (whole_order es n flat)
@@ -199,7 +166,7 @@ module _ (es : List Edge) where
     whole_complete k h =
         stands_inside (whole_order es n flat) k
         (⊎_elim
-        (λ (t : alone es k ≡ true). among_right k (reverse flat) (singletons es n) (passes_passing (alone es) 0 n k (omega arith) (omega arith) t))
+        (λ (t : alone es k ≡ true). among_right k (reverse flat) (singletons es n) (filter_has (alone es) (range_with_len 0 n) k (range_in 0 n k (omega arith) (omega arith)) t))
         (λ (t : alone es k ≡ false). among_left k (reverse flat) (singletons es n) (among_reverse k flat (all k (not_alone_touched k t))))
         (cases_Bool (alone es k)))
 

@@ -1,7 +1,7 @@
 pub mod Sorting
 pub mod Orders
 pub mod Partitions
-pub mod Places
 pub mod Subgraphs
+pub mod Places
 pub mod Wholes
 pub mod WholePartitions

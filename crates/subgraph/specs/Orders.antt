@@ -1,10 +1,8 @@
 -- Orders of nodes, and the order of one subgraph.
-use Rattle.std.specs.Prelude.{◌≡◌, ℕ, ◌<◌, Bool, true, false, List, [], ◌∷◌, slice_index_or}
+use Rattle.std.specs.Prelude.{◌≡◌, ℕ, ◌<◌, Bool, true, false, List, [], ◌∷◌, filter, slice_index_or}
 use Rattle.records.specs.declared.edge.Edge.{Edge}
-use Rattle.records.specs.Edges.{add_if}
 use Rattle.records.specs.Walks.{Among, Joins}
 use Rattle.tables.specs.Marks.{blanks}
-use Rattle.walks.specs.declared.explore.Ways.TheVariants.{Both}
 use Rattle.walks.specs.Exploring.{sources, nexts, Trail, explored}
 use Rattle.subgraph.specs.Sorting.{sorted}
 
@@ -19,14 +17,13 @@ is_empty (x ∷ xs) = false
 
 -- those without incoming edges
 abbrev pub starts : List Edge → List ℕ → List ℕ
-starts es [] = []
-starts es (n ∷ ns) = add_if (is_empty (sources es n)) n (starts es ns)
+starts es ns = filter (λ n. is_empty (sources es n)) ns
 
--- the walk over edges both ways from a root
+-- the search along edges both ways from a root
 abbrev pub found_from : List Edge → ℕ → List Bool → ℕ → Trail
-found_from es nodes visited root = explored (nexts Both es) (blanks nodes visited) (root ∷ []) visited []
+found_from es nodes visited root = explored (nexts es) (blanks nodes visited) (root ∷ []) visited []
 
--- the topological stack, begun with what of that has no incoming edges
+-- the topological search, begun with what of that has no incoming edges
 abbrev pub sorted_from : List Edge → ℕ → List Bool → List Bool → ℕ → Trail
 sorted_from es nodes visited appended root = sorted es (blanks nodes appended) (starts es (found_from es nodes visited root).order) appended []
 

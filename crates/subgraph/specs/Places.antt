@@ -1,15 +1,12 @@
 -- The tables of a partition.
-use Rattle.std.specs.Prelude.{◌≡◌, ℕ, ◌<◌, Bool, List, [], ◌∷◌, ◌++◌, length, replicate, Some, None, Option, slice_index_or, slice_set}
+use Rattle.std.specs.Prelude.{◌≡◌, ℕ, ◌<◌, Bool, List, [], ◌∷◌, ◌++◌, reverse, length, replicate, Some, None, Option, slice_index_or, slice_set}
 use Rattle.records.specs.declared.node.Place.{Place}
 use Rattle.records.specs.Walks.{Connected, Touched}
-use Rattle.tables.specs.Latest.{latest}
 use Rattle.subgraph.specs.declared.places.Subgraphs.{Subgraphs}
 use Rattle.subgraph.specs.Partitions.{Partition}
+use Rattle.subgraph.specs.Subgraphs.{in_order}
 
 -- all orders, one after another, the last node first
-abbrev pub order_of : Subgraphs → List ℕ
-order_of s = latest 0 s.ordered s.order
-
 abbrev pub in_turn : List (List ℕ) → List ℕ
 in_turn [] = []
 in_turn (o ∷ os) = o ++ in_turn os
@@ -29,7 +26,7 @@ pub record Filled (p : Partition) (found appended : List Bool) (s : Subgraphs) :
   pub marks : found ≡ p.found
   pub turns : appended ≡ p.appended
   pub count : s.count ≡ length p.orders
-  pub order : order_of s ≡ in_turn p.orders
+  pub order : reverse (in_order s) ≡ in_turn p.orders
   pub places_are : s.places ≡ places p.orders (replicate 1024 None)
 
 -- ---- the law, where R are the steps along edges

@@ -1,15 +1,17 @@
 -- What is answered of a graph's subgraphs and of the order of all its nodes.
-use Rattle.std.specs.Prelude.{◌≡◌, ℕ, List, ◌++◌, length, take, Ok, Err, Option, Result}
+use Rattle.std.specs.Prelude.{◌≡◌, ℕ, false, List, length, take, replicate, None, Ok, Err, Option, Result}
 use Rattle.records.specs.declared.edge.Edge.{Edge}
 use Rattle.records.specs.declared.node.Place.{Place}
 use Rattle.records.specs.declared.refusal.Refusal.{Refusal}
-use Rattle.records.specs.Walks.{Acyclic, Joins}
-use Rattle.graph.specs.Model.{Model}
+use Rattle.records.specs.Walks.{Acyclic, Among, Joins, Touched}
+use Rattle.graph.specs.Model.{Model, unless_refused}
 use Rattle.graph.specs.Order.{Within, Complete, Once, Topological}
+use Rattle.walks.specs.Cycles.{acyclic_answer}
 use Rattle.subgraph.specs.declared.places.Subgraphs.{Subgraphs}
-use Rattle.subgraph.specs.Places.{Placed}
-use Rattle.subgraph.specs.Subgraphs.{Summary, partitioned, in_order}
-use Rattle.subgraph.specs.Wholes.{singletons}
+use Rattle.subgraph.specs.Partitions.{partition}
+use Rattle.subgraph.specs.Subgraphs.{in_order, in_parts}
+use Rattle.subgraph.specs.Places.{in_turn, places, Placed}
+use Rattle.subgraph.specs.Wholes.{whole_order}
 
 -- how many subgraphs there are, how many nodes are in them, the order of all nodes, and each node's place
 pub record Whole : Type 0 where
@@ -18,18 +20,21 @@ pub record Whole : Type 0 where
   pub order : List ℕ
   pub places : List (Option Place)
 
+-- the orders of the subgraphs of n nodes, found from blank tables
+abbrev pub orders_of : List Edge → ℕ → List (List ℕ)
+orders_of es n = (partition es n (replicate n false) (replicate n false)).orders
+
 -- the orders of the subgraphs, and then the nodes without edges
-abbrev pub with_singletons : List Edge → ℕ → Result Summary Refusal → Result Whole Refusal
-with_singletons es n (Ok s) = Ok (record { count = s.count; in_subgraphs = length s.order; order = s.order ++ singletons es n; places = s.places })
-with_singletons es n (Err e) = Err e
+abbrev pub whole : List Edge → ℕ → List (List ℕ) → Whole
+whole es n os = record { count = length os; in_subgraphs = length (in_turn os); order = whole_order es n (in_turn os); places = places os (replicate n None) }
 
 -- what is answered of a graph, with a work table of that room
 abbrev pub whole_partition : Model → ℕ → Result Whole Refusal
-whole_partition m room = with_singletons m.edges (length m.nodes) (partitioned m room)
+whole_partition m room = unless_refused (acyclic_answer m room) (Ok (whole m.edges (length m.nodes) (orders_of m.edges (length m.nodes))))
 
 -- what is told of a graph of n nodes
 abbrev pub told_whole : ℕ → Result Subgraphs Refusal → Result Whole Refusal
-told_whole n (Ok s) = Ok (record { count = s.count; in_subgraphs = s.in_subgraphs; order = in_order s; places = take n s.places })
+told_whole n (Ok s) = Ok (record { count = s.count; in_subgraphs = in_parts s; order = in_order s; places = take n s.places })
 told_whole n (Err e) = Err e
 
 -- ---- the law
@@ -43,3 +48,5 @@ pub record LawfulWhole (m : Model) (s : Subgraphs) : Type 0 where
   pub complete : Complete (length m.nodes) (in_order s)
   pub once : Once (in_order s)
   pub topological : Topological m.edges (in_order s)
+  -- the nodes of the subgraphs, which stand first, are those with an edge
+  pub touched : (x : ℕ) → (Among x (take (in_parts s) (in_order s)) → Touched (Joins m.edges) x) × (Touched (Joins m.edges) x → Among x (take (in_parts s) (in_order s)))

@@ -1,12 +1,11 @@
 // The partition of a graph into subgraphs.
 ghost use Rattle.std.specs.Prelude.{◌≡◌, ◌<◌, ◌≤◌, length, IfOk};
-ghost use Rattle.records.specs.Walks.{Joins, Acyclic};
 ghost use Rattle.tables.specs.Filled.{Blank};
 ghost use Rattle.graph.specs.Model.{model};
 ghost use Rattle.walks.specs.Cycles.{left_blank};
+ghost use Rattle.walks.specs.Exploring.{IsTableOf};
 ghost use Rattle.subgraph.specs.Partitions.{begins, partition};
 ghost use Rattle.subgraph.specs.Places.{Filled};
-ghost use Rattle.subgraph.specs.Subgraphs.{partitioned, told, Lawful};
 ghost use Rattle.subgraph.specs.WholePartitions.{whole_partition, told_whole, LawfulWhole};
 
 use crate::order::{no_neighbors, order_from};
@@ -20,7 +19,7 @@ use walks::cycle::check_acyclic;
 // Whether a node is a root without a subgraph.
 fn begins_subgraph(graph: &RawInstGraph, node: u16, found: &[bool]) -> bool
     requires node { node < length (model graph.now).nodes }
-    requires table { length (model graph.now).nodes ≤ length found.now }
+    requires table { IsTableOf (model graph.now) found.now }
     ensures { result ≡ begins (model graph.now).edges found.now node }
 {
     no_neighbors(graph, node, Direction::Incoming)
@@ -30,12 +29,11 @@ fn begins_subgraph(graph: &RawInstGraph, node: u16, found: &[bool]) -> bool
 
 // The subgraphs of the roots, ascending.
 fn partition(graph: &RawInstGraph, found: &mut [bool], appended: &mut [bool]) -> Subgraphs
-    requires found_room { length (model graph.now).nodes ≤ length found.old }
-    requires appended_room { length (model graph.now).nodes ≤ length appended.old }
+    requires found_room { IsTableOf (model graph.now) found.old }
+    requires appended_room { IsTableOf (model graph.now) appended.old }
     requires unfound { Blank (length (model graph.now).nodes) found.old }
     requires unappended { Blank (length (model graph.now).nodes) appended.old }
-    ensures is { Filled (partition (model graph.now).edges (length (model graph.now).nodes) found.old appended.old) found.new appended.new result }
-    ensures law { Acyclic (Joins (model graph.now).edges) → Lawful (Joins (model graph.now).edges) result }
+    ensures { Filled (partition (model graph.now).edges (length (model graph.now).nodes) found.old appended.old) found.new appended.new result }
 {
     let mut subgraphs = Subgraphs::new();
     for node in 0..graph.nodes().len() {
@@ -47,26 +45,16 @@ fn partition(graph: &RawInstGraph, found: &mut [bool], appended: &mut [bool]) ->
     subgraphs
 }
 
-// The subgraphs of a graph without closed walks, before the nodes without edges are added.
-fn connected_parts(graph: &RawInstGraph, work: &mut [bool]) -> Result<Subgraphs, Refusal>
-    ensures answer { told (length (model graph.now).nodes) result ≡ partitioned (model graph.now) (length work.old) }
-    ensures table { work.new ≡ left_blank (length (model graph.now).nodes) work.old }
-    ensures law { IfOk result (Lawful (Joins (model graph.now).edges)) }
-{
-    check_acyclic(graph, work)?;
-    let mut appended = [false; 1024];
-    let subgraphs = partition(graph, work, &mut appended);
-    fill(work, graph.nodes().len(), false);
-    Ok(subgraphs)
-}
-
 // The subgraphs of a graph without closed walks, and the order of all its nodes.
 pub fn subgraphs(graph: &RawInstGraph, work: &mut [bool]) -> Result<Subgraphs, Refusal>
     ensures answer { told_whole (length (model graph.now).nodes) result ≡ whole_partition (model graph.now) (length work.old) }
     ensures table { work.new ≡ left_blank (length (model graph.now).nodes) work.old }
     ensures law { IfOk result (LawfulWhole (model graph.now)) }
 {
-    let mut parts = connected_parts(graph, work)?;
+    check_acyclic(graph, work)?;
+    let mut appended = [false; 1024];
+    let mut parts = partition(graph, work, &mut appended);
+    fill(work, graph.nodes().len(), false);
     parts.add_singletons(graph);
     Ok(parts)
 }

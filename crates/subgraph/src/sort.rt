@@ -1,64 +1,42 @@
-// The topological stack.
-ghost use Rattle.std.specs.Prelude.{◌≡◌, ◌+◌, ◌≤◌, length};
-ghost use Rattle.tables.specs.Marks.{blanks};
-ghost use Rattle.tables.specs.Stacks.{held};
-ghost use Rattle.tables.specs.Steps.{Below};
+// The search that gives a topological order.
+ghost use Rattle.std.specs.Prelude.{◌≡◌, ℕ, ◌+◌, ◌≤◌, Bool, List, length};
+ghost use Rattle.records.specs.declared.edge.Edge.{Edge};
 ghost use Rattle.graph.specs.Model.{model};
-ghost use Rattle.walks.specs.Exploring.{targets, pending, Left};
-ghost use Rattle.subgraph.specs.Sorting.{is_ready, ready, sorted};
+ghost use Rattle.walks.specs.Exploring.{IsTableOf, targets};
+ghost use Rattle.walks.specs.Joined.{targets_joined};
+ghost use Rattle.subgraph.specs.Sorting.{is_ready};
 
 use graph::raw::RawInstGraph;
 use records::edge::Direction;
 use tables::stack::Stack;
+use walks::explore::Search;
+
+// The search along outgoing edges that goes on to a node once its sources are all visited.
+#[derive(Clone, Copy)]
+pub(crate) struct Ready;
+
+impl Search for Ready {
+    ghost next = { targets };
+
+    ghost takes = { is_ready };
+
+    ghost joined = { targets_joined };
+
+    fn push_next(graph: &RawInstGraph, node: u16, visited: &[bool], stack: &mut Stack) {
+        for target in graph.neighbors_directed(node as usize, Direction::Outgoing) {
+            if all_appended(graph, target, visited) {
+                stack.push(target);
+            }
+        }
+    }
+}
 
 // Whether each source of a node is appended.
 fn all_appended(graph: &RawInstGraph, node: u16, appended: &[bool]) -> bool
-    requires { length (model graph.now).nodes ≤ length appended.now }
+    requires { IsTableOf (model graph.now) appended.now }
     ensures { result ≡ is_ready (model graph.now).edges appended.now node }
 {
-    let mut list = graph.neighbors_directed(node as usize, Direction::Incoming);
-    while let Some(source) = list.next(graph) {
-        if !appended[source as usize] {
-            return false;
-        }
-    }
-    true
-}
-
-// Pushes each target of a node whose sources are all appended.
-fn push_ready(graph: &RawInstGraph, node: u16, appended: &[bool], stack: &mut Stack)
-    requires table { length (model graph.now).nodes ≤ length appended.now }
-    requires room { length (held stack.old) + length (targets (model graph.now).edges node) ≤ 8193 }
-    requires below { Below (length (model graph.now).nodes) (held stack.old) }
-    ensures pushed { held stack.new ≡ ready (model graph.now).edges (targets (model graph.now).edges node) appended.now (held stack.old) }
-    ensures below { Below (length (model graph.now).nodes) (held stack.new) }
-{
-    let mut list = graph.neighbors_directed(node as usize, Direction::Outgoing);
-    while let Some(target) = list.next(graph) {
-        if all_appended(graph, target, appended) {
-            stack.push(target);
-        }
-    }
-}
-
-// Appends nodes in topological order, from those on the stack on.
-pub(crate) fn sort(
-    graph: &RawInstGraph,
-    stack: &mut Stack,
-    appended: &mut [bool],
-    order: &mut Stack,
-)
-    requires table { length (model graph.now).nodes ≤ length appended.old }
-    requires below { Below (length (model graph.now).nodes) (held stack.old) }
-    requires room { length (held stack.old) + pending (targets (model graph.now).edges) (length (model graph.now).nodes) appended.old ≤ 8193 }
-    requires notes { length (held order.old) + blanks (length (model graph.now).nodes) appended.old ≤ 8193 }
-    ensures { Left (sorted (model graph.now).edges (blanks (length (model graph.now).nodes) appended.old) (held stack.old) appended.old (held order.old)) appended.new (held order.new) }
-{
-    while let Some(node) = stack.pop() {
-        if !appended[node as usize] {
-            appended[node as usize] = true;
-            order.push(node);
-            push_ready(graph, node, appended, stack);
-        }
-    }
+    graph
+        .neighbors_directed(node as usize, Direction::Incoming)
+        .all(|source| appended[source as usize])
 }

@@ -2,4 +2,3 @@ pub mod Latest
 pub mod Filled
 pub mod Marks
 pub mod Steps
-pub mod Stacks

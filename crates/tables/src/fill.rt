@@ -7,7 +7,7 @@ pub fn fill<V: Copy>(table: &mut [V], count: usize, value: V)
     requires { count ≤ length table.old }
     ensures { table.new ≡ filled count value table.old }
 {
-    for i in 0..count {
-        table[i] = value;
+    for entry in &mut table[..count] {
+        *entry = value;
     }
 }

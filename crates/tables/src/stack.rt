@@ -1,12 +1,53 @@
 // A stack of node numbers.
-ghost use Rattle.std.specs.Prelude.{◌≤◌};
+ghost use Rattle.std.specs.Prelude.{◌≡◌, ◌<◌, [], ◌∷◌, length, reverse};
+ghost use Rattle.tables.specs.Steps.{Steps};
+
+use arrayvec::ArrayVec;
+use std::marker::Model;
 
 // Room for each of 4,096 edges from both of its ends, and one more.
+const ROOM: usize = 8193;
+
 #[derive(Drop)]
 pub struct Stack {
-    pub items: [u16; 8193],
-    pub height: usize,
-    ghost fits: { height ≤ 8193 },
+    items: ArrayVec<u16, ROOM>,
 }
 
-pub mod stacking;
+// A clause sees the numbers, the top first.
+impl Model for Stack {
+    ghost use Rattle.std.specs.Prelude.{ℕ, List, reverse};
+
+    ghost Value = { List ℕ };
+
+    ghost view = { λ s. reverse s.items.items };
+}
+
+impl Stack {
+    pub fn new() -> Self
+        ensures { result ≡ [] }
+    {
+        Stack {
+            items: ArrayVec::new(),
+        }
+    }
+
+    pub fn push(&mut self, x: u16)
+        requires { length self.old < 8193 }
+        ensures { self.new ≡ x ∷ self.old }
+    {
+        self.items.push(x);
+    }
+
+    pub fn pop(&mut self) -> Option<u16>
+        ensures { Steps self.old result self.new }
+    {
+        self.items.pop()
+    }
+
+    // The numbers, the lowest first.
+    pub fn as_slice(&self) -> &[u16]
+        ensures { result.now ≡ reverse self.now }
+    {
+        self.items.as_slice()
+    }
+}

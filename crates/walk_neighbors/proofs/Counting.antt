@@ -1,12 +1,12 @@
 -- How many nodes a walk gives out.
 use Rattle.std.proofs.Common.{ℕ, zero, suc, ◌+◌, ◌≤◌, Bool, true, false, cond, eqb, List, [], ◌∷◌, length, replicate, filter, arith}
-use Rattle.std.proofs.lemmas.List.{length-reverse, length-take-le}
+use Rattle.std.proofs.lemmas.List.{length-reverse}
 use Rattle.std.proofs.lemmas.List.Sums.{length-filter, count_by-le-length}
 use Rattle.records.specs.declared.edge.Direction.{Direction}
 use Rattle.records.specs.declared.edge.Edge.{Edge}
 use Rattle.records.specs.Edges.{history, near, far, add_if, neighbours}
-use Rattle.graph.specs.declared.raw.RawInstGraph.{RawInstGraph}
-use Rattle.graph.specs.Model.{model}
+use Rattle.graph.specs.Model.{Model}
+use Rattle.graph.specs.Sound.{Sound}
 use Rattle.walk_neighbors.specs.PastDisabled.{Noted, noted, push_all, drained, gone_through, sees, is_off, may_reach, enabled_neighbours}
 
 drained_le : (lists : ℕ → List ℕ) (off : ℕ → Bool) (k : ℕ) (v : List Bool) (st : List ℕ) → length (drained lists off k (noted v st)) ≤ k
@@ -32,18 +32,12 @@ neighbours_le d (e ∷ es) n =
     elim (eqb (near d e) n) as (λ b. length (add_if b (far d e) (neighbours d es n)) ≤ suc (length es)) [ true ↦ omega arith | false ↦ omega arith ]
 
 -- as many as there are edges and nodes, at most
-pub given_le : (g : RawInstGraph) (d : Direction) (n : ℕ) → length (enabled_neighbours d (model g) n) ≤ 5120
-given_le g d n =
-    let m = model g in
+pub given_le : (m : Model) → Sound m → (d : Direction) (n : ℕ) → length (enabled_neighbours d m n) ≤ 5120
+given_le m good d n =
     let direct = filter (may_reach m) (sees d m n) in
     let a = through_le (sees d m) (is_off m) (length m.nodes) direct (noted (replicate 1024 false) []) in
     let b = length-filter (may_reach m) (sees d m n) in
     let c = count_by-le-length (may_reach m) (sees d m n) in
     let e = neighbours_le d (history m.edges) n in
     let r = length-reverse m.edges in
-    let i = g.edges.sparse in
-    let j = g.edges.room in
-    let t = length-take-le g.edges.count g.edges.rows (omega arith) in
-    let k = g.few in
-    let l = g.counted in
     omega arith

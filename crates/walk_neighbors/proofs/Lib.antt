@@ -1,5 +1,7 @@
+pub mod Each
+pub mod Serving
+pub mod Finding
 pub mod Stepping
-pub mod Edges
 pub mod Meeting
 pub mod Pushing
 pub mod Running

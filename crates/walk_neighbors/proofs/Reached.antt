@@ -1,20 +1,19 @@
 -- The nodes that the direct list skips are none that the walk would miss.
-use Rattle.std.proofs.Common.{◌≡◌, ℕ, suc, ◌<◌, ◌≤◌, Bool, true, false, not, ◌||◌, ◌⊎◌, List, [], ◌∷◌, length, get_or, take, filter, sym, refl, ap, ◌∙◌, subst, inl, inr, ⊎_elim, arith}
-use Rattle.std.proofs.lemmas.List.{get_or-take, get_or_default, get_or_past, length-take-le}
+use Rattle.std.proofs.Common.{◌≡◌, ℕ, suc, ◌<◌, ◌≤◌, Bool, true, false, not, ◌||◌, ◌⊎◌, List, [], ◌∷◌, length, get_or, filter, sym, refl, ap, ◌∙◌, subst, inl, inr, ⊎_elim, arith}
+use Rattle.std.proofs.lemmas.List.{get_or_default, get_or_past}
 use Rattle.std.proofs.lemmas.Bool.{cases_eq, cases_Bool, cases_lt, cond-true, cond-false, both_ways, or_cases, or_left, not-true}
 use Rattle.records.specs.declared.edge.Direction.{Direction}
 use Rattle.records.specs.declared.edge.Direction.TheVariants.{Outgoing, Incoming}
-use Rattle.records.specs.declared.edge.Edge.{Edge}
 use Rattle.records.specs.declared.stage.Stage.{Stage}
 use Rattle.records.specs.declared.stage.Stage.TheVariants.{Open, Sealed}
 use Rattle.records.specs.Edges.{no_edge}
-use Rattle.records.specs.Walks.{Among}
-use Rattle.graph.specs.declared.raw.RawInstGraph.{RawInstGraph}
-use Rattle.graph.specs.Model.{model}
-use Rattle.graph.proofs.Following.{far_below}
+use Rattle.records.specs.Walks.{Among, Joins}
+use Rattle.graph.specs.Model.{Model}
+use Rattle.graph.specs.Sound.{Sound, Ordered}
+use Rattle.graph.proofs.Seen.{seen_joins}
+use Rattle.graph.proofs.Sound.{neighbours_below}
 use Rattle.walk_neighbors.specs.PastDisabled.{sees, is_off, may_reach, enabled_neighbours}
 use Rattle.walk_neighbors.specs.GivenOut.{times, Past, near_by, onward, Gives, GivesFrom}
-use Rattle.walk_neighbors.proofs.Edges.{each_seen, sees_below}
 use Rattle.walk_neighbors.proofs.Pushing.{times_same, times_other}
 use Rattle.walk_neighbors.proofs.Running.{gives}
 
@@ -75,74 +74,64 @@ stages : (s : Stage) → (s ≡ Open) ⊎ (s ≡ Sealed)
 stages Open = inl refl
 stages Sealed = inr refl
 
-module _ (g : RawInstGraph) where
+module _ (m : Model) (good : Sound m) where
   -- an open graph tells nothing
-  open_yes : g.stage ≡ Open → (x : ℕ) → may_reach (model g) x ≡ true
-  open_yes o x = ap (λ k. get_or (take k g.reach) x true) (g.unordered o)
+  open_yes : m.stage ≡ Open → (x : ℕ) → may_reach m x ≡ true
+  open_yes o x = ap (λ r. get_or r x true) (good.no_reach o)
 
-  told : g.stage ≡ Sealed → length (model g).reach ≡ g.node_count
-  told s =
-      let all = g.all_ordered s in
-      let few = g.few in
-      let room = g.reach_room in
-      length-take-le g.ordered g.reach (omega arith) ∙ all
+  told_of : Ordered m → (x : ℕ) → x < length m.nodes → get_or m.reach x false ≡ may_reach m x
+  told_of o x h = let long = o.reach_long in get_or_default m.reach x false true (omega arith)
 
-  told_of : g.stage ≡ Sealed → (x : ℕ) → x < g.node_count → get_or (model g).reach x false ≡ may_reach (model g) x
-  told_of s x h = let long = told s in get_or_default (model g).reach x false true (omega arith)
-
-  sealed_yes : g.stage ≡ Sealed → (x : ℕ) → is_off (model g) x ≡ false → may_reach (model g) x ≡ true
-  sealed_yes s x e =
-      let long = told s in
-      let counted = g.counted in
+  sealed_yes : Ordered m → (x : ℕ) → is_off m x ≡ false → may_reach m x ≡ true
+  sealed_yes o x e =
+      let long = o.reach_long in
       ⊎_elim
-      (λ (h : x < g.node_count).
+      (λ (h : x < length m.nodes).
       ⊎_elim
-      (λ (t : get_or (model g).reach x false ≡ true). sym (told_of s x h) ∙ t)
-      (λ (t : is_off (model g) x ≡ true). absurd (both_ways (is_off (model g) x) e t))
-      (or_cases (get_or (model g).reach x false) (is_off (model g) x) (g.yes_or_disabled s x (omega arith))))
-      (λ (h : g.node_count ≤ x). get_or_past (model g).reach x true (omega arith))
-      (cases_lt x g.node_count)
+      (λ (t : get_or m.reach x false ≡ true). sym (told_of o x h) ∙ t)
+      (λ (t : is_off m x ≡ true). absurd (both_ways (is_off m x) e t))
+      (or_cases (get_or m.reach x false) (is_off m x) (o.yes_or_disabled x h)))
+      (λ (h : length m.nodes ≤ x). get_or_past m.reach x true (omega arith))
+      (cases_lt x (length m.nodes))
 
-  enabled_yes : (x : ℕ) → is_off (model g) x ≡ false → may_reach (model g) x ≡ true
-  enabled_yes x e = ⊎_elim (λ (o : g.stage ≡ Open). open_yes o x) (λ (s : g.stage ≡ Sealed). sealed_yes s x e) (stages g.stage)
+  enabled_yes : (x : ℕ) → is_off m x ≡ false → may_reach m x ≡ true
+  enabled_yes x e = ⊎_elim (λ (o : m.stage ≡ Open). open_yes o x) (λ (s : m.stage ≡ Sealed). sealed_yes (good.ordered s) x e) (stages m.stage)
 
-  edge_back : (e : ℕ) → e < g.edges.count → may_reach (model g) (get_or g.edges.rows e no_edge).source || not (may_reach (model g) (get_or g.edges.rows e no_edge).target) ≡ true
+  edge_back : (e : ℕ) → e < length m.edges → may_reach m (get_or m.edges e no_edge).source || not (may_reach m (get_or m.edges e no_edge).target) ≡ true
   edge_back e h =
-      let k = g.edges.count in
-      let rows = g.edges.rows in
-      let fits : k ≤ length rows = omega (arith, g.edges.sparse, g.edges.room) in
-      let a = (get_or rows e no_edge).source in
-      let b = (get_or rows e no_edge).target in
+      let a = (get_or m.edges e no_edge).source in
+      let b = (get_or m.edges e no_edge).target in
+      let ends = good.ends e h in
       ⊎_elim
-      (λ (o : g.stage ≡ Open). or_left (may_reach (model g) a) (not (may_reach (model g) b)) (open_yes o a))
-      (λ (s : g.stage ≡ Sealed).
-      let is = get_or-take k rows e no_edge h in
-      let long = length-take-le k rows fits in
-      ap (λ v. v || not (may_reach (model g) b)) (sym (told_of s a (far_below Incoming k rows fits g.node_count e g.ends h)))
-      ∙ ap (λ v. get_or (model g).reach a false || not v) (sym (told_of s b (far_below Outgoing k rows fits g.node_count e g.ends h)))
-      ∙ ap (λ (x : Edge). get_or (model g).reach x.source false || not (get_or (model g).reach x.target false)) (sym is)
-      ∙ g.yes_goes_back s e (omega arith))
-      (stages g.stage)
+      (λ (o : m.stage ≡ Open). or_left (may_reach m a) (not (may_reach m b)) (open_yes o a))
+      (λ (s : m.stage ≡ Sealed).
+      let o = good.ordered s in
+      ap (λ v. v || not (may_reach m b)) (sym (told_of o a ends.0))
+      ∙ ap (λ v. get_or m.reach a false || not v) (sym (told_of o b ends.1))
+      ∙ o.yes_goes_back e h)
+      (stages m.stage)
 
-  goes_back : (a b : ℕ) → may_reach (model g) a || not (may_reach (model g) b) ≡ true → may_reach (model g) b ≡ true → may_reach (model g) a ≡ true
-  goes_back a b h t =
+  goes_back : (a b : ℕ) → Joins m.edges a b → may_reach m b ≡ true → may_reach m a ≡ true
+  goes_back a b (e, (h, s, t)) told =
+      let x = get_or m.edges e no_edge in
+      let back : may_reach m a || not (may_reach m b) ≡ true = ap (λ i. may_reach m i || not (may_reach m b)) (sym s) ∙ ap (λ i. may_reach m x.source || not (may_reach m i)) (sym t) ∙ edge_back e h in
       ⊎_elim
-      (λ (y : may_reach (model g) a ≡ true). y)
-      (λ (n : not (may_reach (model g) b) ≡ true). absurd (both_ways (may_reach (model g) b) (not-true (may_reach (model g) b) n) t))
-      (or_cases (may_reach (model g) a) (not (may_reach (model g) b)) h)
+      (λ (y : may_reach m a ≡ true). y)
+      (λ (n : not (may_reach m b) ≡ true). absurd (both_ways (may_reach m b) (not-true (may_reach m b) n) told))
+      (or_cases (may_reach m a) (not (may_reach m b)) back)
 
-  pub lawful : (d : Direction) (n : ℕ) → GivesFrom d (model g) n (enabled_neighbours d (model g) n)
+  pub lawful : (d : Direction) (n : ℕ) → GivesFrom d m n (enabled_neighbours d m n)
   lawful d n e = go d
     where
-      of_kept : (d : Direction) → Gives (sees d (model g)) (is_off (model g)) (filter (may_reach (model g)) (sees d (model g) n)) (enabled_neighbours d (model g) n)
-      of_kept d = let few = g.few in let counted = g.counted in gives (sees d (model g)) (is_off (model g)) (length (model g).nodes) (sees_below g d) (filter (may_reach (model g)) (sees d (model g) n)) (omega arith)
+      of_kept : (d : Direction) → Gives (sees d m) (is_off m) (filter (may_reach m) (sees d m n)) (enabled_neighbours d m n)
+      of_kept d = gives (sees d m) (is_off m) (length m.nodes) (λ k. neighbours_below (length m.nodes) m.edges d k good.ends) (filter (may_reach m) (sees d m n)) good.few_nodes
 
-      go : (d : Direction) → Gives (sees d (model g)) (is_off (model g)) (sees d (model g) n) (enabled_neighbours d (model g) n)
+      go : (d : Direction) → Gives (sees d m) (is_off m) (sees d m n) (enabled_neighbours d m n)
       go Outgoing =
-          gives_all (sees Outgoing (model g)) (is_off (model g)) (may_reach (model g)) enabled_yes
-          (λ m z t a. goes_back m z (each_seen g Outgoing (λ x y. may_reach (model g) x || not (may_reach (model g) y) ≡ true) edge_back m z a) t)
-          (sees Outgoing (model g) n) (enabled_neighbours Outgoing (model g) n) (of_kept Outgoing)
+          gives_all (sees Outgoing m) (is_off m) (may_reach m) enabled_yes
+          (λ k z t a. goes_back k z (seen_joins Outgoing m.edges k z a) t)
+          (sees Outgoing m n) (enabled_neighbours Outgoing m n) (of_kept Outgoing)
       go Incoming =
-          subst (λ l. Gives (sees Incoming (model g)) (is_off (model g)) l (enabled_neighbours Incoming (model g) n))
-          (all_kept (may_reach (model g)) (sees Incoming (model g) n) (λ z a. goes_back z n (each_seen g Incoming (λ x y. may_reach (model g) y || not (may_reach (model g) x) ≡ true) edge_back n z a) (enabled_yes n e)))
+          subst (λ l. Gives (sees Incoming m) (is_off m) l (enabled_neighbours Incoming m n))
+          (all_kept (may_reach m) (sees Incoming m n) (λ z a. goes_back z n (seen_joins Incoming m.edges n z a) (enabled_yes n e)))
           (of_kept Incoming)

@@ -1,11 +1,18 @@
 -- What pushing a list keeps, and the steps of a walk past disabled nodes.
-use Rattle.std.proofs.Common.{◌≡◌, ℕ, zero, suc, ◌<◌, ◌≤◌, Bool, true, false, List, [], ◌∷◌, get_or, set, replicate, sym, refl, ap, ◌∙◌, subst, ⊎_elim, arith}
+use Rattle.std.proofs.Common.{◌≡◌, ℕ, zero, suc, ◌<◌, ◌≤◌, Bool, true, false, List, [], ◌∷◌, length, get_or, set, replicate, filter, sym, refl, ap, ◌∙◌, subst, ⊎_elim, arith}
 use Rattle.std.proofs.lemmas.List.{length-set, length-replicate}
 use Rattle.std.proofs.lemmas.Bool.{cases_Bool, cond-true, cond-false}
 use Rattle.tables.specs.Steps.{Below}
 use Rattle.tables.proofs.Marking.{blanks_set, blanks_new}
-use Rattle.walk_neighbors.specs.PastDisabled.{Noted, noted, push, push_all, drained, pops}
-use Rattle.walk_neighbors.specs.Cursors.{Fits}
+use Rattle.records.specs.declared.edge.Direction.{Direction}
+use Rattle.graph.specs.Model.{Model}
+use Rattle.walk_neighbors.specs.PastDisabled.{Noted, noted, push, push_all, drained, gone_through, pops, sees, is_off, may_reach, enabled_neighbours}
+
+-- what is noted goes with so many nodes
+pub record Fits (nodes : ℕ) (p : Noted) : Type 0 where
+  pub long : nodes ≤ length p.visited
+  pub below : Below nodes p.stack
+  pub room : pops nodes p ≤ 1024
 
 pub push_yes : (m : ℕ) (p : Noted) → get_or p.visited m false ≡ true → push m p ≡ p
 push_yes m p t = cond-true _ p (noted (set p.visited m true) (m ∷ p.stack)) t
@@ -37,10 +44,6 @@ push_list N (m ∷ ms) p b f =
     let rest = push_list N ms (push m p) b.1 one.0 in
     (rest.0, rest.1 ∙ one.1)
 
--- the first of a list is pushed, and the rest is still to be
-pub push_first : (N o : ℕ) (all rest : List ℕ) (p q : Noted) → all ≡ o ∷ rest → q ≡ push o p → o < N → Fits N p → (push_all rest q ≡ push_all all p) × Fits N q
-push_first N o all rest p q first is low f = (ap (push_all rest) is ∙ ap (λ l. push_all l p) (sym first), subst (Fits N) (sym is) (push_one N o p low f).0)
-
 -- where nothing is pushed yet, each node can be
 pub fits_new : (N : ℕ) → N ≤ 1024 → Fits N (noted (replicate 1024 false) []) × (pops N (noted (replicate 1024 false) []) ≡ N)
 fits_new N small =
@@ -54,3 +57,10 @@ pops_more N n v st = omega arith
 pub none_left : (lists : ℕ → List ℕ) (off : ℕ → Bool) (k : ℕ) (v : List Bool) → drained lists off k (noted v []) ≡ []
 none_left lists off zero v = refl
 none_left lists off (suc k) v = refl
+
+-- a walk that begins with nothing noted gives what the rule says
+pub new_gives : (d : Direction) (m : Model) (n : ℕ) (ms : List ℕ) (p : Noted) → length m.nodes ≤ 1024 → ms ≡ sees d m n → p ≡ noted (replicate 1024 false) [] → gone_through (sees d m) (is_off m) (pops (length m.nodes) p) (filter (may_reach m) ms) p ≡ enabled_neighbours d m n
+new_gives d m n ms p few is none =
+    ap (λ q. gone_through (sees d m) (is_off m) (pops (length m.nodes) q) (filter (may_reach m) ms) q) none
+    ∙ ap (λ l. gone_through (sees d m) (is_off m) (pops (length m.nodes) (noted (replicate 1024 false) [])) (filter (may_reach m) l) (noted (replicate 1024 false) [])) is
+    ∙ ap (λ k. gone_through (sees d m) (is_off m) k (filter (may_reach m) (sees d m n)) (noted (replicate 1024 false) [])) (fits_new (length m.nodes) few).1

@@ -13,12 +13,8 @@ use records::edge::Direction;
 pub fn count_hidden(graph: &RawInstGraph, node: usize, direction: Direction) -> usize
     ensures { result ≡ count_by (λ k. is_hidden (node_at (model graph.now) k)) (enabled_neighbours direction (model graph.now) node) }
 {
-    let mut walk = WalkNeighbors::new(graph, node, direction);
-    let mut count = 0;
-    while let Some(other) = walk.next(graph) {
-        if graph.nodes()[other as usize].hidden() {
-            count += 1;
-        }
-    }
-    count
+    let nodes = graph.nodes();
+    WalkNeighbors::new(graph, node, direction)
+        .filter(|other| nodes[*other as usize].hidden())
+        .count()
 }

@@ -2,4 +2,5 @@
 #![tactic(auto)]
 
 pub mod hidden;
+mod pending;
 pub mod walk;

@@ -1,124 +1,112 @@
 // Going through a node's neighbors, with each disabled one replaced by what lies past it.
-ghost use Rattle.std.specs.Prelude.{◌≡◌, ◌<◌, ◌≤◌, true, length};
-ghost use Rattle.tables.specs.Stacks.{held};
-ghost use Rattle.tables.specs.Steps.{Steps, Inside};
+ghost use Rattle.std.specs.Prelude.{◌≡◌, ◌≤◌, length};
+ghost use Rattle.tables.specs.Steps.{Below};
 ghost use Rattle.graph.specs.Model.{model};
-ghost use Rattle.walk_neighbors.specs.PastDisabled.{push, is_off, may_reach, enabled_neighbours};
-ghost use Rattle.walk_neighbors.specs.GivenOut.{GivesFrom};
-ghost use Rattle.walk_neighbors.specs.Cursors.{noted_of, Fit, direct_of, to_come, after, left, Met};
+ghost use Rattle.graph.specs.Cursors.{coming};
+ghost use Rattle.walk_neighbors.specs.PastDisabled.{pops, may_reach};
+ghost use Rattle.walk_neighbors.specs.Inside.{below_prop};
 
+use crate::pending::Pending;
 use graph::neighbors::Neighbors;
 use graph::raw::RawInstGraph;
 use records::edge::Direction;
-use tables::stack::Stack;
 
 // Goes through a node's direct list, and then through the lists of the disabled nodes that it met.
 #[derive(Drop)]
-pub struct WalkNeighbors {
+pub struct WalkNeighbors<'a> {
+    pub(crate) graph: &'a RawInstGraph,
     pub(crate) direction: Direction,
-    pub(crate) direct: Neighbors,
-    // The nodes from disabled nodes' lists that are still to be met, and which nodes were ever among them.
-    pub(crate) stack: Stack,
-    pub(crate) visited: [bool; 1024],
+    pub(crate) direct: Neighbors<'a>,
+    pub(crate) pending: Pending,
+    ghost direct_inside: { Below (length (model graph.now).nodes) (coming direct) } by { below_prop (length (model graph.now).nodes) (coming direct) },
+    ghost long: { length (model graph.now).nodes ≤ length pending.visited },
+    ghost inside: { Below (length (model graph.now).nodes) pending.stack } by { below_prop (length (model graph.now).nodes) pending.stack },
+    ghost room: { pops (length (model graph.now).nodes) pending ≤ 1024 },
 }
 
 // Whether from a node one that is not disabled may be reached: yes where the graph does not tell.
 fn may_reach(graph: &RawInstGraph, node: u16) -> bool
     ensures { result ≡ may_reach (model graph.now) node }
 {
-    let reach = graph.reach();
-    if (node as usize) < reach.len() {
-        reach[node as usize]
-    } else {
-        true
-    }
+    graph.reach().get(node as usize).copied().unwrap_or(true)
 }
 
-impl WalkNeighbors {
+impl<'a> WalkNeighbors<'a> {
+    ghost use Rattle.tables.specs.Steps.{Steps, Inside};
+    ghost use Rattle.walk_neighbors.specs.PastDisabled.{is_off, enabled_neighbours};
+    ghost use Rattle.walk_neighbors.specs.GivenOut.{GivesFrom};
+    ghost use Rattle.walk_neighbors.specs.Cursors.{direct_of, to_come, after, left, Met};
+    ghost use Rattle.std.specs.Prelude.{true};
+
     // The neighbors of a node past disabled nodes, at most one for each of 4,096 edges and 1,024 nodes; a number that names no node has none.
-    pub fn new(graph: &RawInstGraph, node: usize, direction: Direction) -> Self
-        ensures coming { to_come (model graph.now) result ≡ enabled_neighbours direction (model graph.now) node }
-        ensures law { GivesFrom direction (model graph.now) node (to_come (model graph.now) result) }
-        ensures few { length (to_come (model graph.now) result) ≤ 5120 }
-        ensures fit { Fit (model graph.now) result }
+    pub fn new(graph: &'a RawInstGraph, node: usize, direction: Direction) -> Self
+        ensures coming { to_come result ≡ enabled_neighbours direction (model graph.now) node }
+        ensures law { GivesFrom direction (model graph.now) node (to_come result) }
+        ensures few { length (to_come result) ≤ 5120 }
+        ensures inside { Below (length (model graph.now).nodes) (to_come result) }
     {
         WalkNeighbors {
+            graph,
             direction,
             direct: graph.neighbors_directed(node, direction),
-            stack: Stack::new(),
-            visited: [false; 1024],
+            pending: Pending::new(),
         }
     }
 
     // The next direct neighbor from which a node that is not disabled may be reached.
-    fn next_direct(&mut self, graph: &RawInstGraph) -> Option<u16>
-        ensures steps { Steps (direct_of (model graph.now) self.old) result (direct_of (model graph.now) self.new) }
-        ensures inside { Inside (length (model graph.now).nodes) result }
+    fn next_direct(&mut self) -> Option<u16>
+        ensures steps { Steps (direct_of self.old) result (direct_of self.new) }
+        ensures inside { Inside (length (model self.old.graph.now).nodes) result }
+        ensures graph { self.new.graph ≡ self.old.graph }
         ensures direction { self.new.direction ≡ self.old.direction }
-        ensures stack { self.new.stack ≡ self.old.stack }
-        ensures visited { self.new.visited ≡ self.old.visited }
+        ensures pending { self.new.pending ≡ self.old.pending }
     {
-        while let Some(other) = self.direct.next(graph) {
-            if may_reach(graph, other) {
-                return Some(other);
-            }
-        }
-        None
+        let graph = self.graph;
+        self.direct.find(|other| may_reach(graph, *other))
     }
 
-    // The next node, from the direct list or else from the stack.
-    fn next_met(&mut self, graph: &RawInstGraph) -> Option<u16>
-        requires { Fit (model graph.now) self.old }
-        ensures met { Met (model graph.now) self.old result self.new }
-        ensures inside { Inside (length (model graph.now).nodes) result }
-        ensures fit { Fit (model graph.now) self.new }
+    // The next node, from the direct list or else from those noted.
+    fn next_met(&mut self) -> Option<u16>
+        ensures met { Met self.old result self.new }
+        ensures inside { Inside (length (model self.old.graph.now).nodes) result }
+        ensures graph { self.new.graph ≡ self.old.graph }
     {
-        match self.next_direct(graph) {
+        match self.next_direct() {
             Some(node) => Some(node),
-            None => self.stack.pop(),
+            None => self.pending.pop(),
         }
     }
 
-    // Pushes a node and marks it, unless it is marked.
-    fn push(&mut self, node: u16)
-        requires inside { node < length self.old.visited }
-        requires room { length (held self.old.stack) < 8193 }
-        ensures noted { noted_of self.new ≡ push node (noted_of self.old) }
-        ensures direction { self.new.direction ≡ self.old.direction }
-        ensures direct { self.new.direct ≡ self.old.direct }
+    // Goes past a disabled node: notes its neighbors.
+    fn push_list(&mut self, node: u16)
+        requires { is_off (model self.old.graph.now) node ≡ true }
+        ensures onward { to_come self.new ≡ after node self.old }
+        ensures left { left self.new ≡ left self.old }
+        ensures graph { self.new.graph ≡ self.old.graph }
     {
-        if !self.visited[node as usize] {
-            self.visited[node as usize] = true;
-            self.stack.push(node);
+        for other in self.graph.neighbors_directed(node as usize, self.direction) {
+            self.pending.push(other);
         }
     }
+}
 
-    // Goes past a disabled node: pushes its neighbors.
-    fn push_list(&mut self, graph: &RawInstGraph, node: u16)
-        requires off { is_off (model graph.now) node ≡ true }
-        requires fit { Fit (model graph.now) self.old }
-        ensures onward { to_come (model graph.now) self.new ≡ after (model graph.now) node self.old }
-        ensures left { left (model graph.now) self.new ≡ left (model graph.now) self.old }
-        ensures fit { Fit (model graph.now) self.new }
-    {
-        let mut list = graph.neighbors_directed(node as usize, self.direction);
-        while let Some(other) = list.next(graph) {
-            self.push(other);
-        }
-    }
+impl Iterator for WalkNeighbors<'_> {
+    ghost use Rattle.std.specs.Iterator.{YieldsFirst, item_count};
+    ghost use Rattle.walk_neighbors.specs.Cursors.{to_come};
+
+    type Item = u16;
+
+    ghost next_gives = { YieldsFirst to_come };
+
+    ghost remaining = { item_count to_come };
 
     // The next node that is not disabled, none past the end.
-    pub fn next(&mut self, graph: &RawInstGraph) -> Option<u16>
-        requires { Fit (model graph.now) self.old }
-        ensures steps { Steps (to_come (model graph.now) self.old) result (to_come (model graph.now) self.new) }
-        ensures inside { Inside (length (model graph.now).nodes) result }
-        ensures fit { Fit (model graph.now) self.new }
-    {
-        while let Some(node) = self.next_met(graph) {
-            if !graph.nodes()[node as usize].disabled() {
+    fn next(&mut self) -> Option<u16> {
+        while let Some(node) = self.next_met() {
+            if !self.graph.nodes()[node as usize].disabled() {
                 return Some(node);
             }
-            self.push_list(graph, node);
+            self.push_list(node);
         }
         None
     }

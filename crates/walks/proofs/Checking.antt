@@ -1,13 +1,15 @@
 -- What the test of all nodes answers.
-use Rattle.std.proofs.Common.{◌≡◌, ℕ, zero, suc, ◌<◌, ◌≤◌, Bool, true, false, cond, ltb, ◌⊎◌, List, length, Ok, Err, Result, sym, refl, ap, ◌∙◌, subst, inl, inr, ⊎_elim, arith}
+use Rattle.std.proofs.Common.{◌≡◌, ℕ, zero, suc, ◌<◌, ◌≤◌, true, false, cond, ◌⊎◌, List, length, Ok, Err, Result, sym, refl, ap, ◌∙◌, subst, inl, inr, ⊎_elim, arith}
 use Rattle.std.proofs.lemmas.Bool.{cases_Bool, cases_lt, cases_eq, cond-true, cond-false, lt-ltb, le-ltb, both_ways}
 use Rattle.records.specs.declared.edge.Edge.{Edge}
 use Rattle.records.specs.declared.refusal.Refusal.{Refusal}
 use Rattle.records.specs.declared.refusal.Refusal.TheVariants.{TableTooShort, ClosedWalk}
 use Rattle.records.specs.Walks.{Joins, Leads, Lowest, Acyclic}
-use Rattle.tables.specs.Filled.{filled}
-use Rattle.graph.specs.Model.{Model, unless_refused}
-use Rattle.walks.specs.Cycles.{comes_back, checked, acyclic_answer, left_blank, Tested}
+use Rattle.graph.specs.Adding.{room_for}
+use Rattle.graph.specs.declared.raw.RawInstGraph.{RawInstGraph}
+use Rattle.graph.specs.Model.{Model, model, unless_refused}
+use Rattle.walks.proofs.Seeing.{edges_inside}
+use Rattle.walks.specs.Cycles.{comes_back, checked, acyclic_answer, Tested}
 use Rattle.walks.proofs.Closed.{back_decides, leads_inside}
 
 -- one node more
@@ -55,11 +57,29 @@ module _ (es : List Edge) (N : ℕ) (inside : (x y : ℕ) → Joins es x y → (
       err : (m : ℕ) × (checked es N n ≡ Err (ClosedWalk m)) × Lowest (Joins es) m → Found (suc n) (checked es N (suc n))
       err (m, is, low) = inr (m, checked_stays es N n (suc n) (ClosedWalk m) (omega arith) is, low)
 
+-- a table passes the test where it has an entry for each node
+pub passed_room : (m : Model) (room : ℕ) → room_for room m ≡ Ok tt → length m.nodes ≤ room
+passed_room m room ok =
+    ⊎_elim
+    (λ (lt : room < length m.nodes).
+    let short : room_for room m ≡ Err (TableTooShort (length m.nodes)) = cond-true _ _ _ (lt-ltb room (length m.nodes) lt) in
+    let z : ◌≡◌ {A = ℕ} 0 1 = cc in
+    absurd (omega arith))
+    (λ (ge : length m.nodes ≤ room). ge)
+    (cases_lt room (length m.nodes))
+
+-- a table is too short, or long enough
+pub short_answer : (m : Model) (room : ℕ) → room < length m.nodes → acyclic_answer m room ≡ Err (TableTooShort (length m.nodes))
+short_answer m room lt = ap (λ r. unless_refused r (checked m.edges (length m.nodes) (length m.nodes))) (cond-true _ _ _ (lt-ltb room (length m.nodes) lt))
+
+pub long_answer : (m : Model) (room : ℕ) → length m.nodes ≤ room → acyclic_answer m room ≡ checked m.edges (length m.nodes) (length m.nodes)
+long_answer m room ge = ap (λ r. unless_refused r (checked m.edges (length m.nodes) (length m.nodes))) (cond-false _ _ _ (le-ltb room (length m.nodes) ge))
+
 pub tested : (m : Model) → ((x y : ℕ) → Joins m.edges x y → (x < length m.nodes) × (y < length m.nodes)) → (room : ℕ) → Tested m room (acyclic_answer m room)
 tested m inside room =
     ⊎_elim
-    (λ (lt : room < N). subst (Tested m room) (sym (cond-true (ltb room N) (Err (TableTooShort N)) (checked es N N) (lt-ltb room N lt))) (too_short lt))
-    (λ (ge : N ≤ room). subst (Tested m room) (sym (cond-false (ltb room N) (Err (TableTooShort N)) (checked es N N) (le-ltb room N ge))) (⊎_elim (no_walk ge) (closed_walk ge) (found es N inside N (omega arith))))
+    (λ (lt : room < N). subst (Tested m room) (sym (short_answer m room lt)) (too_short lt))
+    (λ (ge : N ≤ room). subst (Tested m room) (sym (long_answer m room ge)) (⊎_elim (no_walk ge) (closed_walk ge) (found es N inside N (omega arith))))
     (cases_lt room N)
   where
     other : {A : Type 0} → ◌≡◌ {A = ℕ} 0 1 → A
@@ -110,14 +130,13 @@ tested m inside room =
           short = λ n. (λ e. other cc, λ h. let lt = h.1 in absurd (omega arith));
         })
 
--- what is to show of a test that comes to all nodes
-pub record Complete (m : Model) (work : List Bool) (r : Result (Unit {0}) Refusal) (after : List Bool) : Type 0 where
-  pub answer : r ≡ acyclic_answer m (length work)
-  pub table : after ≡ left_blank (length m.nodes) work
-  pub law : Tested m (length work) r
+pub tested_lem : (g : RawInstGraph) (room : ℕ) (r : Result (Unit {0}) Refusal) → r ≡ acyclic_answer (model g) room → Tested (model g) room r
+tested_lem g room r is = subst (Tested (model g) room) (sym is) (tested (model g) (edges_inside g) room)
 
-pub complete : (m : Model) → ((x y : ℕ) → Joins m.edges x y → (x < length m.nodes) × (y < length m.nodes)) → (work : List Bool) → length m.nodes ≤ length work → (r : Result (Unit {0}) Refusal) (after : List Bool) → checked m.edges (length m.nodes) (length m.nodes) ≡ r → after ≡ filled (length m.nodes) false work → Complete m work r after
-complete m inside work fits r after is blank =
-    let test : ltb (length work) (length m.nodes) ≡ false = le-ltb (length work) (length m.nodes) fits in
-    let all : acyclic_answer m (length work) ≡ r = cond-false _ _ _ test ∙ is in
-    record { answer = sym all; table = blank ∙ sym (cond-false _ _ _ test); law = subst (Tested m (length work)) all (tested m inside (length work)) }
+-- a node that leads back is the answer where none below it does
+pub stopped : (m : Model) (room n : ℕ) → length m.nodes ≤ room → n < length m.nodes → checked m.edges (length m.nodes) n ≡ Ok tt → comes_back m.edges (length m.nodes) n ≡ true → Err (ClosedWalk n) ≡ acyclic_answer m room
+stopped m room n fits low below back =
+    sym (long_answer m room fits ∙ checked_stays m.edges (length m.nodes) (suc n) (length m.nodes) (ClosedWalk n) (omega arith) (checked_stop m.edges (length m.nodes) n below back))
+
+pub finished : (m : Model) (room n : ℕ) → length m.nodes ≤ room → n ≡ length m.nodes → checked m.edges (length m.nodes) n ≡ Ok tt → Ok tt ≡ acyclic_answer m room
+finished m room n fits all below = sym (long_answer m room fits ∙ ap (checked m.edges (length m.nodes)) (sym all) ∙ below)

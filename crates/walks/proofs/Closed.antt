@@ -3,6 +3,7 @@ use Rattle.std.proofs.Common.{◌≡◌, ℕ, ◌<◌, ◌≤◌, Bool, true, fa
 use Rattle.std.proofs.lemmas.List.{ext_get_or, get_or-replicate, length-replicate}
 use Rattle.std.proofs.lemmas.Bool.{cases_Bool, cases_lt, both_ways}
 use Rattle.records.specs.declared.edge.Edge.{Edge}
+use Rattle.records.specs.declared.edge.Direction.TheVariants.{Outgoing}
 use Rattle.records.specs.Walks.{Among, Joins, Walk, Leads}
 use Rattle.tables.specs.Filled.{filled, Blank}
 use Rattle.tables.specs.Marks.{blanks}
@@ -10,7 +11,7 @@ use Rattle.tables.proofs.Filling.{length_filled, filled_below, filled_past}
 use Rattle.tables.proofs.Marking.{blanks_le}
 use Rattle.walks.specs.Exploring.{targets, piled, explored}
 use Rattle.walks.specs.Cycles.{comes_back}
-use Rattle.walks.proofs.Seeing.{joins_among, among_joins}
+use Rattle.graph.proofs.Seen.{joins_seen, seen_joins}
 use Rattle.walks.proofs.Exploring.{piled_has, piled_only}
 use Rattle.walks.proofs.Closure.{ended, only, Past, walk_past}
 
@@ -25,12 +26,12 @@ leads_inside es N a (m ∷ ms) b inside w = (inside _ _ w.0).0
 
 along_visited : (es : List Edge) (t : List Bool) → ((x y : ℕ) → get_or t x false ≡ true → Among y (targets es x) → get_or t y false ≡ true) → (a : ℕ) (ms : List ℕ) (b : ℕ) → Walk (Joins es) a ms b → ((y : ℕ) → Joins es a y → get_or t y false ≡ true) → get_or t b false ≡ true
 along_visited es t closed a [] b w first = first b w
-along_visited es t closed a (m ∷ ms) b w first = along_visited es t closed m ms b w.1 (λ y k. closed m y (first m w.0) (joins_among es m y k))
+along_visited es t closed a (m ∷ ms) b w first = along_visited es t closed m ms b w.1 (λ y k. closed m y (first m w.0) (joins_seen Outgoing es m y k))
 
 -- edges among the first N nodes, and the targets of n as they come onto the stack of a walk
 module _ (es : List Edge) (N : ℕ) (inside : (x y : ℕ) → Joins es x y → (x < N) × (y < N)) (n : ℕ) where
   in_targets : (x y : ℕ) → Among y (targets es x) → y < N
-  in_targets x y a = (inside x y (among_joins es x y a)).1
+  in_targets x y a = (inside x y (seen_joins Outgoing es x y a)).1
 
   on_stack : (v : List Bool) (y : ℕ) → Among y (piled (targets es n) v []) → Among y (targets es n)
   on_stack v y a = ⊎_elim (λ c. c) (λ c. absurd c) (piled_only (targets es n) v [] y a)
@@ -40,10 +41,10 @@ module _ (es : List Edge) (N : ℕ) (inside : (x y : ℕ) → Joins es x y → (
   decided small k v o long blank few =
       let st = piled (targets es n) v [] in
       let t = (explored (targets es) k st v o).visited in
-      let end = ended (targets es) N in_targets k v st o long few (λ y a. in_targets n y (on_stack v y a)) (λ x y h a. absurd (both_ways _ (blank x (inside x y (among_joins es x y a)).0) h)) in (
+      let end = ended (targets es) N in_targets k v st o long few (λ y a. in_targets n y (on_stack v y a)) (λ x y h a. absurd (both_ways _ (blank x (inside x y (seen_joins Outgoing es x y a)).0) h)) in (
         λ yes'. ⊎_elim (λ was. absurd (both_ways _ (blank n small) was)) (λ w. w)
-            (only (targets es) N in_targets (λ y. Leads (Joins es) n y) (λ x y w a. one_on (Joins es) n w.0 x y w.1 (among_joins es x y a)) k v st o (λ y a. ([], among_joins es n y (on_stack v y a))) n yes'),
-        λ w. along_visited es t end.closed n w.0 n w.1 (λ y j. end.came y (piled_has (targets es n) v [] y (joins_among es n y j))),
+            (only (targets es) N in_targets (λ y. Leads (Joins es) n y) (λ x y w a. one_on (Joins es) n w.0 x y w.1 (seen_joins Outgoing es x y a)) k v st o (λ y a. ([], seen_joins Outgoing es n y (on_stack v y a))) n yes'),
+        λ w. along_visited es t end.closed n w.0 n w.1 (λ y j. end.came y (piled_has (targets es n) v [] y (joins_seen Outgoing es n y j))),
       )
 
   pub back_decides : n < N → Decides (comes_back es N n) (Leads (Joins es) n n)

@@ -44,6 +44,12 @@ module _ (test : ℕ → Bool) where
       let one : length (cond (test x) (x ∷ st) st) ≤ suc (length st) = elim (test x) as (λ b. length (cond b (x ∷ st) st) ≤ suc (length st)) [ true ↦ omega arith | false ↦ omega arith ] in
       omega arith
 
+  -- what is below n stays so
+  pub below_stacked : (n : ℕ) (xs st : List ℕ) → ((y : ℕ) → Among y xs → y < n) → Below n st → Below n (stacked test xs st)
+  below_stacked n [] st low b = b
+  below_stacked n (x ∷ xs) st low b =
+      below_stacked n xs (cond (test x) (x ∷ st) st) (λ y a. low y (inr a)) (elim (test x) as (λ t. Below n (cond t (x ∷ st) st)) [ true ↦ (low x (inl refl), b) | false ↦ b ])
+
 -- each is visited or on the pile
 pub piled_has : (xs : List ℕ) (v : List Bool) (st : List ℕ) (y : ℕ) → Among y xs → (get_or v y false ≡ true) ⊎ Among y (piled xs v st)
 piled_has xs v st y a = ⊎_elim (λ t. inl t) (λ f. inr (stacked_has (λ m. not (get_or v m false)) xs st y a (ap not f))) (cases_Bool (get_or v y false))
@@ -115,11 +121,6 @@ module _ (push : ℕ → List Bool → List ℕ → List ℕ) (k : ℕ) (st : Li
       go : (l : List ℕ) → fresh v st ≡ l → Q (walked push (suc k) st v o)
       go [] e = subst Q (sym (walk_stops e)) (stop e)
       go (n ∷ rest) e = subst Q (sym (walk_steps n rest e)) (step n rest (fresh_some v st n rest e))
-
-pub turn_old : (push : ℕ → List Bool → List ℕ → List ℕ) (k n : ℕ) (st : List ℕ) (v : List Bool) (o : List ℕ) → get_or v n false ≡ true → walked push k (n ∷ st) v o ≡ walked push k st v o
-turn_old push zero n st v o t = refl
-turn_old push (suc k) n st v o t =
-    ap (λ l. elim l [ [] ↦ record { visited = v; order = o } | m ∷ rest ↦ walked push k (push m (set v m true) rest) (set v m true) (m ∷ o) ]) (cond-true (get_or v n false) (fresh v st) (n ∷ st) t)
 
 pub turn_new : (push : ℕ → List Bool → List ℕ → List ℕ) (k n : ℕ) (st : List ℕ) (v : List Bool) (o : List ℕ) → get_or v n false ≡ false → walked push (suc k) (n ∷ st) v o ≡ walked push k (push n (set v n true) st) (set v n true) (n ∷ o)
 turn_new push k n st v o f = walk_steps push k (n ∷ st) v o n st (cond-false (get_or v n false) (fresh v st) (n ∷ st) f)

@@ -5,10 +5,11 @@ use Rattle.records.specs.declared.refusal.Refusal.{Refusal}
 use Rattle.records.specs.declared.refusal.Refusal.TheVariants.{TableTooShort, ClosedWalk}
 use Rattle.records.specs.Walks.{Acyclic, Lowest, Joins}
 use Rattle.tables.specs.Filled.{filled}
+use Rattle.graph.specs.Adding.{room_for}
 use Rattle.graph.specs.Model.{Model, unless_refused}
 use Rattle.walks.specs.Exploring.{targets, piled, explored}
 
--- among N nodes, what the stack walk over outgoing edges visits when it begins with the targets of n
+-- among N nodes, what the stack search along outgoing edges visits when it begins with the targets of n
 abbrev pub reached_from : List Edge → ℕ → ℕ → List Bool
 reached_from es N n = (explored (targets es) N (piled (targets es n) (replicate N false) []) (replicate N false) []).visited
 
@@ -23,7 +24,7 @@ checked es N (suc n) = unless_refused (checked es N n) (cond (comes_back es N n)
 
 -- all nodes are tested, in a work table of that room
 abbrev pub acyclic_answer : Model → ℕ → Result (Unit {0}) Refusal
-acyclic_answer m room = cond (nat_lt room (length m.nodes)) (Err (TableTooShort (length m.nodes))) (checked m.edges (length m.nodes) (length m.nodes))
+acyclic_answer m room = unless_refused (room_for room m) (checked m.edges (length m.nodes) (length m.nodes))
 
 -- a work table after that: as it was if it has too few entries for n nodes, else with these entries blank
 abbrev pub left_blank : ℕ → List Bool → List Bool

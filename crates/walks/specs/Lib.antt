@@ -1,2 +1,3 @@
 pub mod Exploring
+pub mod Joined
 pub mod Cycles

@@ -1,12 +1,12 @@
 // The search for closed walks.
-ghost use Rattle.std.specs.Prelude.{◌≡◌, ◌<◌, ◌≤◌, length};
+ghost use Rattle.std.specs.Prelude.{◌≡◌, ◌<◌, length};
 ghost use Rattle.tables.specs.Filled.{Blank};
 ghost use Rattle.graph.specs.Model.{model};
 ghost use Rattle.walks.specs.Cycles.{comes_back, acyclic_answer, left_blank, Tested};
+ghost use Rattle.walks.specs.Exploring.{IsTableOf};
 
-use crate::explore::{Ways, explore, push_unvisited};
+use crate::explore::{Along, Search, explore};
 use graph::raw::RawInstGraph;
-use records::edge::Direction;
 use records::refusal::Refusal;
 use tables::fill::fill;
 use tables::stack::Stack;
@@ -14,15 +14,14 @@ use tables::stack::Stack;
 // Whether a walk of one or more edges leads from a node to itself.
 fn leads_back(graph: &RawInstGraph, node: u16, visited: &mut [bool]) -> bool
     requires node { node < length (model graph.now).nodes }
-    requires table { length (model graph.now).nodes ≤ length visited.old }
+    requires table { IsTableOf (model graph.now) visited.old }
     requires blank { Blank (length (model graph.now).nodes) visited.old }
     ensures answer { result ≡ comes_back (model graph.now).edges (length (model graph.now).nodes) node }
     ensures table { visited.new ≡ visited.old }
 {
     let mut stack = Stack::new();
-    let mut order = Stack::new();
-    push_unvisited(graph, Direction::Outgoing, node, visited, &mut stack);
-    explore(graph, Ways::Along, &mut stack, visited, &mut order);
+    Along::push_next(graph, node, visited, &mut stack);
+    explore::<Along>(graph, stack, visited);
     let back = visited[node as usize];
     fill(visited, graph.nodes().len(), false);
     back
@@ -34,10 +33,8 @@ pub fn check_acyclic(graph: &RawInstGraph, work: &mut [bool]) -> Result<(), Refu
     ensures table { work.new ≡ left_blank (length (model graph.now).nodes) work.old }
     ensures law { Tested (model graph.now) (length work.old) result }
 {
+    graph.room_for(work.len())?;
     let count = graph.nodes().len();
-    if work.len() < count {
-        return Err(Refusal::TableTooShort(count));
-    }
     fill(work, count, false);
     for node in 0..count {
         if leads_back(graph, node as u16, work) {

@@ -1,4 +1,4 @@
-// Stack walks over the edges of a graph, and the search for closed walks.
+// Stack searches over the edges of a graph, and the search for closed walks.
 #![tactic(auto)]
 
 pub mod cycle;

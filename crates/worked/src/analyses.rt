@@ -2,7 +2,7 @@
 ghost use Rattle.std.specs.Prelude.{Bool, true, false, ◌||◌};
 ghost use Rattle.records.specs.Nodes.{is_disabled};
 
-use analysis::analysis::TopoAnalysis;
+use analysis::analysis::{Going, TopoAnalysis};
 use inst_graph::inst_graph::InstGraph;
 use records::node::{Node, NodeKind};
 use records::refusal::Refusal;
@@ -14,19 +14,9 @@ struct AfterDisabled;
 impl TopoAnalysis for AfterDisabled {
     type Value = bool;
 
-    ghost forward = { true };
-
-    ghost skips = { false };
+    type Course = Going<true, false>;
 
     ghost meaning = { λ _. record { blank = false; start = λ n node. is_disabled node; join = λ so_far n node k neighbour value. so_far || value; close = λ so_far n node. so_far } };
-
-    fn forward() -> bool {
-        true
-    }
-
-    fn skips_disabled() -> bool {
-        false
-    }
 
     fn blank(&self) -> bool {
         false
@@ -59,19 +49,9 @@ struct Constant(u32);
 impl TopoAnalysis for Constant {
     type Value = u32;
 
-    ghost forward = { false };
-
-    ghost skips = { true };
+    type Course = Going<false, true>;
 
     ghost meaning = { λ c. record { blank = 0; start = λ n node. c.0; join = λ so_far n node k neighbour value. so_far; close = λ so_far n node. so_far } };
-
-    fn forward() -> bool {
-        false
-    }
-
-    fn skips_disabled() -> bool {
-        true
-    }
 
     fn blank(&self) -> u32 {
         0

@@ -95,15 +95,15 @@ fn lists_run_newest_edge_first(rt: HostRuntime) {
     assert_eq!(rt; graph.add_edge(2, 1), Ok(2));
     assert_eq!(rt; graph.add_edge(0, 1), Ok(3));
     let mut out = graph.neighbors_directed(0, Direction::Outgoing);
-    assert_eq!(rt; out.next(&graph), Some(1));
-    assert_eq!(rt; out.next(&graph), Some(2));
-    assert_eq!(rt; out.next(&graph), Some(1));
-    assert_eq!(rt; out.next(&graph), None);
+    assert_eq!(rt; out.next(), Some(1));
+    assert_eq!(rt; out.next(), Some(2));
+    assert_eq!(rt; out.next(), Some(1));
+    assert_eq!(rt; out.next(), None);
     let mut into = graph.neighbors_directed(1, Direction::Incoming);
-    assert_eq!(rt; into.next(&graph), Some(0));
-    assert_eq!(rt; into.next(&graph), Some(2));
-    assert_eq!(rt; into.next(&graph), Some(0));
-    assert_eq!(rt; into.next(&graph), None);
+    assert_eq!(rt; into.next(), Some(0));
+    assert_eq!(rt; into.next(), Some(2));
+    assert_eq!(rt; into.next(), Some(0));
+    assert_eq!(rt; into.next(), None);
     let mut nowhere = graph.neighbors_directed(3, Direction::Outgoing);
-    assert_eq!(rt; nowhere.next(&graph), None);
+    assert_eq!(rt; nowhere.next(), None);
 }

@@ -1,9 +1,10 @@
 // Adding an edge in front of the lists of its two ends.
-ghost use Rattle.std.specs.Prelude.{◌≡◌, ◌<◌, [], ◌∷◌, ◌++◌, length, replicate, Some, None, slice_index_or, slice_set};
+ghost use Rattle.std.specs.Prelude.{◌≡◌, ◌==◌, ◌<◌, [], ◌∷◌, ◌++◌, length, replicate, Some, None, slice_index_or, slice_set};
 ghost use Rattle.graph.specs.EdgeLists.{edges_in};
+ghost use Rattle.graph.specs.Links.{Chained};
 
 use super::*;
-use records::edge::Edge;
+use records::edge::Direction;
 
 impl Links {
     fn new() -> Self
@@ -11,8 +12,8 @@ impl Links {
         ensures next { result.next ≡ replicate 4096 None }
     {
         Links {
-            first: [None; 1024],
-            next: [None; 4096],
+            first: [None; MAX_NODES],
+            next: [None; MAX_EDGES],
         }
     }
 
@@ -33,11 +34,7 @@ impl EdgeLists {
         ensures { edges_in result ≡ [] }
     {
         EdgeLists {
-            count: 0,
-            rows: [Edge {
-                source: 0,
-                target: 0,
-            }; 4096],
+            rows: ArrayVec::new(),
             outgoing: Links::new(),
             incoming: Links::new(),
         }
@@ -47,13 +44,35 @@ impl EdgeLists {
     pub(crate) fn push(&mut self, edge: Edge)
         requires source { edge.source < 1024 }
         requires target { edge.target < 1024 }
-        requires room { self.old.count < 4096 }
+        requires room { length (edges_in self.old) < 4096 }
         ensures { edges_in self.new ≡ edges_in self.old ++ edge ∷ [] }
     {
-        let number = self.count as u16;
-        self.rows[self.count] = edge;
+        let number = self.rows.len() as u16;
+        self.rows.push(edge);
         self.outgoing.link(edge.source, number);
         self.incoming.link(edge.target, number);
-        self.count += 1;
+    }
+
+    pub(crate) fn is_full(&self) -> bool
+        ensures { result ≡ (length (edges_in self.now) == 4096) }
+    {
+        self.rows.is_full()
+    }
+
+    // The edges in the order of adding.
+    pub(crate) fn as_slice(&self) -> &[Edge]
+        ensures { result.now ≡ edges_in self.now }
+    {
+        self.rows.as_slice()
+    }
+
+    // The links of one direction.
+    pub(crate) fn links(&self, direction: Direction) -> &Links
+        ensures { Chained direction (edges_in self.now) result.now }
+    {
+        match direction {
+            Direction::Outgoing => &self.outgoing,
+            Direction::Incoming => &self.incoming,
+        }
     }
 }

@@ -4,7 +4,6 @@ use Rattle.records.specs.Stages.{of_open}
 use Rattle.graph.specs.Model.{model, outcome}
 use Rattle.inst_graph.specs.Seals.{WellSealed}
 use Rattle.inst_graph.proofs.SealLaws.{refusals, refused_whole, refused_table, sealed_whole, sealed_table, sealed_well}
-use Rattle.inst_graph.proofs.Noted.{cut}
 use Rattle.graph.specs.Sealing.{sealed_in}
 use Rattle.subgraph.specs.Subgraphs.{in_order}
 use Rattle.inst_graph.proofs.seal.seal.Goals as goal
@@ -43,7 +42,7 @@ returns c =
     let was = c.in_ok-parts.ensures in
     let one = model c.seal_in_order.new.self in
     let two = model c.note_reach.new.graph in
-    let places = cut (length c.nodes-count.result.now) (length (model g).nodes) s.places (ap length c.nodes-count.ensures) in
+    let places = ap (λ l. take (length l) s.places) c.nodes-count.ensures in
     let first : one ≡ sealed_in (take (length (model g).nodes) s.places) (in_order s) (model g) =
     c.seal_in_order.ensures ∙ ap (λ l. sealed_in l c.topo_node_indices.result.now (model g)) places ∙ ap (λ o. sealed_in (take (length (model g).nodes) s.places) o (model g)) c.topo_node_indices.ensures in
     let noted = c.note_reach.ensures in

@@ -1,68 +1,26 @@
-use Rattle.std.proofs.Common.{◌+◌, ◌<◌, ◌≤◌, true, length, set, sym, subst, arith}
-use Rattle.std.proofs.lemmas.List.{length-set}
-use Rattle.tables.specs.Stacks.{held}
-use Rattle.walks.specs.Exploring.{nexts, pending, piled}
-use Rattle.tables.specs.Steps.{Below}
-use Rattle.graph.specs.Model.{model}
-use Rattle.walks.proofs.Exploring.{length_piled}
-use Rattle.walks.proofs.Turns.{Going, top_below, old_going, new_going, order_room, push_room, falls, ends_left}
+use Rattle.std.proofs.Common.{⊎_elim, arith}
+use Rattle.walks.proofs.Seeing.{edges_inside}
+use Rattle.walks.proofs.Turns.{starts, push_room, falls, new_going, ends_left}
 use Rattle.walks.proofs.explore.explore.Goals as goal
 
-pub push-requires : goal.push-requires
-push-requires c =
-    let N = length (model c.args.graph.now).nodes in
-    let next = nexts c.args.ways (model c.args.graph.now).edges in
-    let long : N ≤ length c.loop-node.visited = omega arith in
-    order_room (λ n v st. piled (next n) v st) next (λ n v st. length_piled (next n) v st) N c.loop-node.visited (held c.loop-node.stack) (held c.pop.new.self) (held c.loop-node.order) c.in-Some.node c.in-Some.ensures long c.if-not-visited-node.true c.loop-node.invariant.below c.loop-node.invariant.notes
+pub loop-node-init : goal.loop-node-init
+loop-node-init g c = rw c.new-order.ensures (starts _ _ _ c.args.visited.now c.args.stack c.requires.below c.requires.room)
 
-pub push_nexts-requires : goal.push_nexts-requires
-push_nexts-requires c =
-    let N = length (model c.args.graph.now).nodes in
-    let next = nexts c.args.ways (model c.args.graph.now).edges in
-    let v = c.loop-node.visited in
-    let n = c.in-Some.node in
-    let long : N ≤ length v = omega arith in
-    let top = c.in-Some.ensures in
-    let b = top_below (λ n v st. piled (next n) v st) next (λ n v st. length_piled (next n) v st) N v (held c.loop-node.stack) (held c.pop.new.self) (held c.loop-node.order) n top long c.loop-node.invariant.below in
-    record {
-      table = subst (λ m. N ≤ m) (sym (length-set v n true)) long;
-      room = push_room (λ n v st. piled (next n) v st) next (λ n v st. length_piled (next n) v st) N v (held c.loop-node.stack) (held c.pop.new.self) (held c.loop-node.order) n top long c.if-not-visited-node.true c.loop-node.invariant.below c.loop-node.invariant.room;
-      below = b.1;
-    }
+pub push_next-requires-clause-room : goal.push_next-requires-clause-room
+push_next-requires-clause-room g c = push_room _ _ _ _ _ c.loop-node.visited c.loop-node.stack c.pop.new.self c.loop-node.order c.in-Some.node c.in-Some.ensures c.loop-node.invariant c.if-not-visited-node.true (omega arith)
 
 pub loop-node-smaller-then-not-visited-node : goal.loop-node-smaller-then-not-visited-node
-loop-node-smaller-then-not-visited-node c =
-    let N = length (model c.args.graph.now).nodes in
-    let next = nexts c.args.ways (model c.args.graph.now).edges in
-    let v = c.loop-node.visited in
-    let n = c.in-Some.node in
-    let long : N ≤ length v = omega arith in
-    subst (λ s. length s + pending next N (set v n true) < length (held c.loop-node.stack) + pending next N v) (sym c.push_nexts.ensures.pushed)
-    (falls (λ n v st. piled (next n) v st) next (λ n v st. length_piled (next n) v st) N v (held c.loop-node.stack) (held c.pop.new.self) (held c.loop-node.order) n c.in-Some.ensures long c.if-not-visited-node.true c.loop-node.invariant.below)
+loop-node-smaller-then-not-visited-node g c =
+    let less = falls _ _ _ _ _ c.loop-node.visited c.loop-node.stack c.pop.new.self c.loop-node.order c.in-Some.node c.in-Some.ensures c.loop-node.invariant c.if-not-visited-node.true (omega arith) in
+    rw c.push_next.ensures less
 
 pub loop-node-preserved-then-not-visited-node : goal.loop-node-preserved-then-not-visited-node
-loop-node-preserved-then-not-visited-node c =
-    let N = length (model c.args.graph.now).nodes in
-    let next = nexts c.args.ways (model c.args.graph.now).edges in
-    let v = c.loop-node.visited in
+loop-node-preserved-then-not-visited-node g c =
+    let graph = c.args.graph.now in
     let n = c.in-Some.node in
-    let long : N ≤ length v = omega arith in
-    let pile = c.push_nexts.ensures.pushed in
-    let v₀ = c.args.visited.now in
-    let st₀ = held c.args.stack.now in
-    let o₀ = held c.args.order.now in
-    let rest = held c.pop.new.self in
-    subst (λ s. Going (λ n v st. piled (next n) v st) next N v₀ st₀ o₀ (set v n true) s (held c.push.new.self)) (sym pile)
-    (subst (λ o. Going (λ n v st. piled (next n) v st) next N v₀ st₀ o₀ (set v n true) (piled (next n) (set v n true) rest) o) (sym c.push.ensures)
-    (new_going (λ n v st. piled (next n) v st) next (λ n v st. length_piled (next n) v st) N v (held c.loop-node.stack) rest (held c.loop-node.order) n c.in-Some.ensures long c.if-not-visited-node.true c.loop-node.invariant.below v₀ st₀ o₀ (subst (Below N) pile c.push_nexts.ensures.below) c.loop-node.invariant))
-
-pub loop-node-preserved : goal.loop-node-preserved
-loop-node-preserved c =
-    let N = length (model c.args.graph.now).nodes in
-    let next = nexts c.args.ways (model c.args.graph.now).edges in
-    let v = c.loop-node.visited in
-    let long : N ≤ length v = omega arith in
-    old_going (λ n v st. piled (next n) v st) next (λ n v st. length_piled (next n) v st) N v (held c.loop-node.stack) (held c.pop.new.self) (held c.loop-node.order) c.in-Some.node c.in-Some.ensures long c.args.visited.now (held c.args.stack.now) (held c.args.order.now) c.if-not-visited-node.false c.loop-node.invariant
+    rw (c.push_next.ensures, c.push.ensures)
+    (new_going _ _ _ _ _ c.loop-node.visited c.loop-node.stack c.pop.new.self c.loop-node.order n c.in-Some.ensures c.loop-node.invariant c.if-not-visited-node.true (omega arith)
+    (λ m a. ⊎_elim (λ j. (edges_inside graph n m j).1) (λ j. (edges_inside graph m n j).0) (g.met.S.Search.joined _ n m a)))
 
 pub returns : goal.returns
-returns c = ends_left (λ n v st. piled (nexts c.args.ways (model c.args.graph.now).edges n) v st) (nexts c.args.ways (model c.args.graph.now).edges) (length (model c.args.graph.now).nodes) c.args.visited.now (held c.args.stack.now) (held c.args.order.now) c.loop-node.visited (held c.loop-node.stack) (held c.loop-node.order) c.in_default.ensures.0 c.loop-node.invariant
+returns g c = ends_left _ _ _ _ _ c.loop-node.visited c.loop-node.stack c.loop-node.order c.in_default.ensures.0 c.loop-node.invariant

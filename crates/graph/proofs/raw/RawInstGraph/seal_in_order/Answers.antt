@@ -1,55 +1,38 @@
-use Rattle.std.proofs.Common.{◌≡◌, ℕ, ◌<◌, true, false, not, ◌||◌, get_or, take, replicate, sym, refl, ap, ◌∙◌, subst, arith}
-use Rattle.std.proofs.lemmas.List.{get_or-take, get_or-replicate, take-replicate, length-replicate}
-use Rattle.records.specs.Edges.{no_edge}
-use Rattle.records.specs.Nodes.{no_node, is_disabled}
+use Rattle.std.proofs.Common.{◌≡◌, ◌≤◌, true, length, replicate, sym, ap, ◌∙◌, subst}
+use Rattle.arrayvec.specs.ArrayVec.{with_items}
+use Rattle.records.specs.declared.node.NodeState.TheVariants.{Hidden, Disabled}
+use Rattle.graph.specs.declared.raw.Sealing.{Sealing}
 use Rattle.graph.specs.EdgeLists.{edges_in}
-use Rattle.graph.specs.Model.{Model, model}
-use Rattle.graph.specs.Order.{Within, Complete, Once, Topological}
-use Rattle.graph.proofs.Stages.{open_not_sealed}
+use Rattle.graph.specs.Order.{Ends}
+use Rattle.graph.specs.Ordered.{OrdersAll}
+use Rattle.graph.specs.Tallies.{tally}
+use Rattle.graph.proofs.Placing.{length_places, tally_places}
+use Rattle.graph.proofs.Sealed.{ordered_all}
+use Rattle.graph.proofs.Writing.{items_places}
 use Rattle.graph.proofs.raw.RawInstGraph.seal_in_order.Goals as goal
-
-pub copied-self-requires : goal.copied-self-requires
-copied-self-requires c = let f = c.args.self.now.few in omega (arith, c.requires.long)
 
 pub invariant_of-self : goal.invariant_of-self
 invariant_of-self c =
-    let g = c.put_places.new.self in
-    let n = g.node_count in
-    let order = c.args.order.now in
-    let few = g.few in
-    let count : c.args.self.now.node_count ≡ n = sym c.put_places.ensures.count in
-    let front : order ≡ take n c.copied-self.result = sym c.copied-self.ensures.front ∙ ap (λ k. take k c.copied-self.result) (c.requires.long ∙ count) in
-    let edges : edges_in c.args.self.now.edges ≡ edges_in g.edges = sym (ap (λ (m : Model). m.edges) c.put_places.ensures.after) in
-    let yes_at : (k : ℕ) → k < n → get_or (take n (replicate 1024 true)) k false ≡ true = λ k h. get_or-take n (replicate 1024 true) k false h ∙ get_or-replicate 1024 k true false (omega arith) in
-    let sealed = c.requires in record {
-      few = few;
-      counted = g.counted;
-      hides = g.hides;
-      disables = g.disables;
-      ends = g.ends;
-      order_room = c.copied-self.ensures.room;
-      reach_room = length-replicate 1024 true;
-      ordered_few = few;
-      unordered = λ q. absurd (open_not_sealed q refl);
-      all_ordered = λ _. refl;
-      within = λ _. subst (Within n) front (subst (λ k. Within k order) count sealed.within);
-      complete = λ _. subst (Complete n) front (subst (λ k. Complete k order) count sealed.complete);
-      once = λ _. subst Once front sealed.once;
-      topological = λ _. subst (λ es. Topological es (take n c.copied-self.result)) edges (subst (Topological (edges_in c.args.self.now.edges)) front sealed.topological);
-      yes_or_disabled = λ _ k h. let long = g.counted in ap (λ b. b || is_disabled (get_or (take n g.nodes) k no_node)) (yes_at k (omega arith));
-      yes_goes_back = λ _ e h. ap (λ b. b || not (get_or (take n (replicate 1024 true)) (get_or (edges_in g.edges) e no_edge).target false)) (yes_at (get_or (edges_in g.edges) e no_edge).source (g.ends e h).0);
+    let g = c.args.self.now in
+    let places = c.args.places.now in
+    let nodes = items_places g.nodes c.deref_mut.result.now c.put_places.new.nodes places c.deref_mut.ensures.value c.put_places.ensures in
+    let many = ap length nodes ∙ length_places places g.nodes.items in
+    let edges = edges_in g.edges in
+    let r = c.requires in
+    let all = ordered_all g.nodes.items (with_items g.nodes c.put_places.new.nodes).items edges c.args.order.now _ _ many c.new.ensures.order c.new.ensures.reach g.ends r.long r.within r.complete r.once r.topological in
+    record {
+      few = subst (λ n. n ≤ 1024) (sym many) g.few;
+      hides = g.hides ∙ sym (ap (tally Hidden) nodes ∙ tally_places places g.nodes.items Hidden);
+      disables = g.disables ∙ sym (ap (tally Disabled) nodes ∙ tally_places places g.nodes.items Disabled);
+      ends = subst (λ n. Ends n edges) (sym many) g.ends;
+      ordered = λ s q. let is : c.new.result ≡ s = cc in subst (λ (x : Sealing). OrdersAll (with_items g.nodes c.put_places.new.nodes).items edges x.order.items x.reach.items) is all;
     }
 
 pub returns : goal.returns
 returns c =
-    let g = c.put_places.new.self in
-    let n = g.node_count in
-    let few = g.few in
-    let m = model c.args.self.now in
-    let after = c.put_places.ensures.after in
-    let nodes = ap (λ (x : Model). x.nodes) after in
-    let edges = ap (λ (x : Model). x.edges) after in
-    let generation = ap (λ (x : Model). x.generation) after in
-    let front = ap (λ k. take k c.copied-self.result) (c.put_places.ensures.count ∙ sym c.requires.long) ∙ c.copied-self.ensures.front in
-    let yes-all = take-replicate n 1024 true few ∙ ap (λ k. replicate k true) (c.put_places.ensures.count ∙ sym c.args.self.now.counted) in
+    let g = c.args.self.now in
+    let places = c.args.places.now in
+    let nodes = items_places g.nodes c.deref_mut.result.now c.put_places.new.nodes places c.deref_mut.ensures.value c.put_places.ensures in
+    let order = c.new.ensures.order in
+    let reach = c.new.ensures.reach ∙ ap (λ n. replicate n true) c.requires.long in
     cc

@@ -1,50 +1,36 @@
-use Rattle.std.proofs.Common.{◌≡◌, ◌<◌, length, take, set, sym, ap, ◌∙◌, subst, arith, rules}
-use lib.Seq.{take-set-lt}
-use Rattle.std.proofs.lemmas.List.{get_or-take}
+use Rattle.std.proofs.Common.{◌≡◌, ◌≤◌, length, sym, ap, ◌∙◌, subst}
+use Rattle.std.proofs.lemmas.List.{length-set}
 use Rattle.records.specs.declared.node.NodeState.TheVariants.{Hidden, Disabled}
-use Rattle.records.specs.declared.stage.Stage.TheVariants.{Sealed}
-use Rattle.records.specs.Nodes.{no_node, is_disabled}
-use Rattle.graph.specs.Reach.{YesOrDisabled}
-use Rattle.graph.proofs.Counting.{tally_put, tally_le, tally_at, counted_put}
-use Rattle.graph.proofs.Disabled.{yes_put}
+use Rattle.records.specs.Nodes.{is_disabled}
+use Rattle.graph.specs.EdgeLists.{edges_in}
+use Rattle.graph.specs.Model.{stage_of}
+use Rattle.graph.specs.Order.{Ends}
+use Rattle.graph.specs.Ordered.{OrdersAll}
+use Rattle.graph.specs.Tallies.{tally}
+use Rattle.graph.proofs.Counting.{tally_at, tally_put}
+use Rattle.graph.proofs.Writing.{items_set, ordered_put}
 use Rattle.graph.proofs.raw.RawInstGraph.set_state.Goals as goal
 
 pub set_state-requires : goal.set_state-requires
 set_state-requires c =
     let g = c.args.self.now in
-    let there : c.args.at < length (take g.node_count g.nodes) = omega arith in
-    let h = tally_at Hidden g.node_count g.nodes c.args.at no_node c.requires.there there in
-    let d = tally_at Disabled g.node_count g.nodes c.args.at no_node c.requires.there there in
-    search (rules, tally_le)
+    let same = c.deref_mut.ensures.value in record {
+      hidden = tally_at Hidden g.nodes.items _ c.args.at _ same c.requires.there g.few g.hides;
+      disabled = tally_at Disabled g.nodes.items _ c.args.at _ same c.requires.there g.few g.disables;
+    }
 
 pub invariant_of-self : goal.invariant_of-self
 invariant_of-self c =
     let g = c.args.self.now in
+    let ns = g.nodes.items in
     let at = c.args.at in
     let x = c.set_state.new.node in
-    let there : at < length (take g.node_count g.nodes) = omega arith in
-    let e = counted_put g.node_count g.nodes at x c.requires.there g.counted in
-    let h = tally_put Hidden g.node_count g.nodes at x no_node _ _ c.requires.there there g.hides c.set_state.ensures.hidden in
-    let d = tally_put Disabled g.node_count g.nodes at x no_node _ _ c.requires.there there g.disables c.set_state.ensures.disabled in
-    let still : g.stage ≡ Sealed → YesOrDisabled (take g.node_count (set g.nodes at x)) (take g.ordered g.reach) = λ q. subst (λ ns. YesOrDisabled ns (take g.ordered g.reach)) (sym (take-set-lt g.node_count g.nodes at x c.requires.there)) (yes_put (take g.node_count g.nodes) (take g.ordered g.reach) at x there (c.requires.keeps q ∙ sym (ap is_disabled c.set_state.ensures.node)) (g.yes_or_disabled q)) in
-    record {
-      few = g.few;
-      counted = e;
-      hides = h;
-      disables = d;
-      ends = g.ends;
-      order_room = g.order_room;
-      reach_room = g.reach_room;
-      ordered_few = g.ordered_few;
-      unordered = g.unordered;
-      all_ordered = g.all_ordered;
-      within = g.within;
-      complete = g.complete;
-      once = g.once;
-      topological = g.topological;
-      yes_or_disabled = still;
-      yes_goes_back = g.yes_goes_back;
+    let same = c.deref_mut.ensures.value in
+    let after = sym (items_set g.nodes c.deref_mut.result.now at x same) in
+    let many = sym (length-set ns at x) ∙ ap length after in record {
+      few = subst (λ n. n ≤ 1024) many g.few;
+      hides = subst (λ xs. c.set_state.new.self.hidden ≡ tally Hidden xs) after (tally_put Hidden ns _ at x _ _ same c.requires.there g.hides c.set_state.ensures.hidden);
+      disables = subst (λ xs. c.set_state.new.self.disabled ≡ tally Disabled xs) after (tally_put Disabled ns _ at x _ _ same c.requires.there g.disables c.set_state.ensures.disabled);
+      ends = subst (λ n. Ends n (edges_in g.edges)) many g.ends;
+      ordered = λ s q. subst (λ xs. OrdersAll xs (edges_in g.edges) s.order.items s.reach.items) after (ordered_put ns (edges_in g.edges) s.order.items s.reach.items at x c.requires.there (c.requires.keeps (ap stage_of q) ∙ sym (ap is_disabled c.set_state.ensures.node)) (g.ordered s q));
     }
-
-pub returns : goal.returns
-returns c = search (rules, take-set-lt, get_or-take)

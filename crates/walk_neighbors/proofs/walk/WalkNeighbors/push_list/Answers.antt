@@ -1,27 +1,40 @@
-use Rattle.std.proofs.Common.{length, ◌∙◌}
-use Rattle.graph.specs.Model.{model}
+use Rattle.std.proofs.Common.{◌≡◌, length, sym, refl, ap, ◌∙◌, subst}
+use Rattle.tables.specs.Steps.{Below}
 use Rattle.graph.specs.Cursors.{coming}
-use Rattle.walk_neighbors.specs.Cursors.{noted_of}
-use Rattle.walk_neighbors.proofs.Stepping.{push_first}
-use Rattle.walk_neighbors.proofs.Edges.{sees_below}
-use Rattle.walk_neighbors.proofs.Meeting.{gone_past}
+use Rattle.graph.proofs.Sound.{sound, neighbours_below}
+use Rattle.walk_neighbors.specs.PastDisabled.{push_all, sees}
+use Rattle.walk_neighbors.specs.Cursors.{walked}
+use Rattle.walk_neighbors.proofs.Stepping.{Fits, push_one}
+use Rattle.walk_neighbors.proofs.Meeting.{fits, gone_past}
 use Rattle.walk_neighbors.proofs.walk.WalkNeighbors.push_list.Goals as goal
 
-pub loop-other-preserved : goal.loop-other-preserved
-loop-other-preserved c =
-    let m = model c.args.graph.now in
-    let e = c.in-Some.ensures in
-    let pushed = c.push.ensures in
-    let inv = c.loop-other.invariant in
-    let got = push_first (length m.nodes) c.in-Some.other (coming m.edges c.loop-other.list) (coming m.edges c.next.new.self) (noted_of c.loop-other.self) (noted_of c.push.new.self) e.steps pushed.noted e.inside inv.1 in
-    (got.0 ∙ inv.0, got.1, pushed.direction ∙ inv.2, pushed.direct ∙ inv.3)
+pub loop-other-init : goal.loop-other-init
+loop-other-init c =
+    let w = c.args.self.now in
+    let m = walked w in
+    let all : coming c.into_iter-other-iterator.result ≡ sees w.direction m c.args.node = ap coming c.into_iter-other-iterator.ensures.into_iter_gives ∙ c.neighbors_directed-other-items.ensures in (
+      ap (λ l. push_all l w.pending) all,
+      subst (Below (length m.nodes)) (sym all) (neighbours_below (length m.nodes) m.edges w.direction c.args.node (sound w.graph.now).ends),
+      refl,
+      refl,
+      refl,
+    )
+
+pub invariant_of-self : goal.invariant_of-self
+invariant_of-self c =
+    let w = c.loop-other.self in
+    let N = length (walked w).nodes in
+    let there : Below N (coming c.loop-other.other-iterator) = c.loop-other.invariant.1 in
+    let low = subst (Below N) c.in-Some.ensures.steps there in
+    let kept = subst (Fits N) (sym c.push.ensures) (push_one N c.in-Some.other w.pending low.0 (fits w)).0 in
+    record { direct_inside = w.direct_inside; long = kept.long; inside = kept.below; room = kept.room }
 
 pub returns : goal.returns
 returns c =
-    let g = c.args.graph.now in
-    let m = model g in
-    let n = c.args.node in
     let w = c.args.self.now in
+    let m = walked w in
     let inv = c.loop-other.invariant in
-    let got = gone_past m n w c.loop-other.self (coming m.edges c.neighbors_directed-list.result) (coming m.edges c.loop-other.list) c.requires.fit (sees_below g w.direction n) c.requires.off c.neighbors_directed-list.ensures c.in_default.ensures.steps.0 inv.0 inv.2 inv.3 in
-    record { onward = got.0; left = got.1; fit = inv.1 }
+    let pushed = ap (λ l. push_all l c.loop-other.self.pending) (sym c.in-None.ensures.steps.0) ∙ inv.0 in
+    let b = neighbours_below (length m.nodes) m.edges w.direction c.args.node (sound w.graph.now).ends in
+    let got = gone_past c.args.node w c.loop-other.self b c.requires pushed inv.2 inv.3 inv.4 in
+    record { onward = got.0; left = got.1; graph = inv.2 }

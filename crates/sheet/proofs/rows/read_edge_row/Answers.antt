@@ -1,9 +1,0 @@
-use Rattle.std.proofs.Common.{rules}
-use Rattle.std.proofs.lemmas.List.{take_rest}
-use Rattle.sheet.proofs.rows.read_edge_row.Goals as goal
-
-pub returns-in_default : goal.returns-in_default
-returns-in_default c = search (rules, take_rest)
-
-pub returns : goal.returns
-returns c = search (rules, take_rest)
