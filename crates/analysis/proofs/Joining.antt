@@ -1,5 +1,5 @@
 -- The neighbours that are joined lie within the graph, and come one after the other.
-use Rattle.std.proofs.Common.{◌≡◌, ℕ, zero, suc, ◌<◌, Bool, true, false, cond, List, [], ◌∷◌, length, get_or, Option, None, Some, sym, ap, ◌∙◌, subst, arith}
+use Rattle.std.proofs.Common.{◌≡◌, ℕ, ◌<◌, Bool, true, false, cond, List, [], length, get_or, Option, None, Some, sym, ap, ◌∙◌, subst}
 use Rattle.std.specs.Iterator.{AlwaysYields, Yields}
 use Rattle.std.proofs.lemmas.List.{map-id}
 use Rattle.std.proofs.lemmas.Iterator.{YieldsList}
@@ -10,36 +10,30 @@ use Rattle.graph.specs.Sound.{Sound}
 use Rattle.graph.proofs.Sound.{neighbours_below}
 use Rattle.records.specs.declared.edge.Direction.{Direction}
 use Rattle.walk_neighbors.specs.PastDisabled.{sees, is_off, enabled_neighbours}
-use Rattle.walk_neighbors.proofs.Each.{enabled_below}
+use Rattle.walk_neighbors.proofs.Each.{each_at, enabled_below}
 use Rattle.analysis.specs.Near.{looking_along, near_of}
 
-pub near_below : (m : Model) → Sound m → (forward skips : Bool) (n : ℕ) → Below (length m.nodes) (near_of forward skips m n)
+near_below : (m : Model) → Sound m → (forward skips : Bool) (n : ℕ) → Below (length m.nodes) (near_of forward skips m n)
 near_below m good forward true n =
     elim (is_off m n) as (λ b. Below (length m.nodes) (cond b [] (enabled_neighbours (looking_along forward) m n))) [ true ↦ tt | false ↦ enabled_below m good (looking_along forward) n ]
 near_below m good forward false n = neighbours_below (length m.nodes) m.edges (looking_along forward) n good.ends
 
-below_at : (n : ℕ) (xs : List ℕ) (i d : ℕ) → Below n xs → i < length xs → get_or xs i d < n
-below_at n [] i d b h = absurd (omega arith)
-below_at n (x ∷ xs) zero d b h = b.0
-below_at n (x ∷ xs) (suc i) d b h = below_at n xs i d b.1 (omega arith)
-
 -- an iterator that gives a list
-module _ {S : Type 0} (steps : S → Option ℕ → S → Type 0) (start s : S) (same : s ≡ start) (all : List ℕ) (gives : AlwaysYields steps (λ k. k) start all) where
+module _ {S : Type 0} (steps : S → Option ℕ → S → Type 0) {start s : S} (all : List ℕ) (same : s ≡ start) (gives : AlwaysYields steps (λ k. k) start all) where
   road : YieldsList steps (λ k. k) s all
   road = record { runs = subst (λ k. AlwaysYields steps (λ k. k) k all) (sym same) gives }
 
-  pub turn : (xs : List ℕ) (t u : S) (r : Option ℕ) (x : ℕ) → Yields steps s xs t → r ≡ Some x → steps t r u → (length xs < length all) × (x ≡ get_or all (length xs) x)
-  turn xs t u r x y is step = YieldsList-turn road xs t y r u x is step
+  pub turn : (xs : List ℕ) {t u : S} {r : Option ℕ} {x : ℕ} → Yields steps s xs t → r ≡ Some x → steps t r u → (length xs < length all) × (x ≡ get_or all (length xs) x)
+  turn xs {t} {u} {r} {x} y is step = YieldsList-turn road xs t y r u x is step
 
-  pub at_end : (xs : List ℕ) (t u : S) (r : Option ℕ) → Yields steps s xs t → r ≡ None → steps t r u → xs ≡ all
-  at_end xs t u r y is step = sym (map-id xs) ∙ (YieldsList-end road xs t y r u is step).0
+  pub at_end : (xs : List ℕ) {t u : S} {r : Option ℕ} → Yields steps s xs t → r ≡ None → steps t r u → xs ≡ all
+  at_end xs {t} {u} {r} y is step = sym (map-id xs) ∙ (YieldsList-end road xs t y r u is step).0
 
 -- each neighbour that is given is a node
-pub neighbour_low : (m : Model) → Sound m → (forward skips : Bool) (n : ℕ) → {S : Type 0} (steps : S → Option ℕ → S → Type 0) (start s : S) → s ≡ start → AlwaysYields steps (λ k. k) start (near_of forward skips m n) → (xs : List ℕ) (t u : S) (r : Option ℕ) (x : ℕ) → Yields steps s xs t → r ≡ Some x → steps t r u → x < length m.nodes
-neighbour_low m good forward skips n steps start s same gives xs t u r x y is step =
-    let near = near_of forward skips m n in
-    let at = turn steps start s same near gives xs t u r x y is step in
-    subst (λ k. k < length m.nodes) (sym at.1) (below_at (length m.nodes) near (length xs) x (near_below m good forward skips n) at.0)
+pub neighbour_low : (m : Model) → Sound m → (forward skips : Bool) (n : ℕ) {S : Type 0} (steps : S → Option ℕ → S → Type 0) {start s t u : S} {r : Option ℕ} {x : ℕ} → s ≡ start → AlwaysYields steps (λ k. k) start (near_of forward skips m n) → (xs : List ℕ) → Yields steps s xs t → r ≡ Some x → steps t r u → x < length m.nodes
+neighbour_low m good forward skips n steps {x = x} same gives xs y is step =
+    let at = turn steps (near_of forward skips m n) same gives xs y is step in
+    subst (λ k. k < length m.nodes) (sym at.1) (each_at (λ k. k < length m.nodes) (near_of forward skips m n) (length xs) x (near_below m good forward skips n) at.0)
 
 -- which neighbours are joined
 pub near_direct : (forward skips : Bool) (m : Model) (n : ℕ) (d : Direction) (xs : List ℕ) → d ≡ looking_along forward → skips ≡ false → xs ≡ sees d m n → xs ≡ near_of forward skips m n

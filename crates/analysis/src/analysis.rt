@@ -30,7 +30,7 @@ impl<const F: bool, const S: bool> Course for Going<F, S> {
     ghost SKIP_DISABLED = { S };
 }
 
-// Works out a value for each node from the values of its neighbours.
+// Works out a value for each node from the values of its neighbours. A node comes with its number, as in the Rust.
 pub trait TopoAnalysis {
     type Value: Copy;
 

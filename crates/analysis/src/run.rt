@@ -1,8 +1,9 @@
 // Running an analysis over a sealed graph.
-ghost use Rattle.std.specs.Prelude.{◌≡◌, ◌≤◌, ◌++◌, length, take, drop, Ok};
+ghost use Rattle.std.specs.Prelude.{◌≡◌, ◌++◌, length, take, drop, Ok};
 ghost use Rattle.std.specs.Iterator.{AlwaysYields, IsFinite};
 ghost use Rattle.records.specs.declared.stage.Stage.TheVariants as stage;
 ghost use Rattle.graph.specs.Model.{model};
+ghost use Rattle.graph.specs.Tables.{IsTableOf};
 ghost use Rattle.analysis.specs.Near.{near_of};
 ghost use Rattle.analysis.specs.Rule.{Solves, value_table};
 ghost use Rattle.analysis.specs.Runs.{walk, run_answer, run_table};
@@ -45,12 +46,11 @@ fn run_steps<A: TopoAnalysis, I: Iterator<Item = u16> + Drop>(
     order: I,
 )
     requires sealed { (model graph.now).stage ≡ stage.Sealed }
-    requires room { length (model graph.now).nodes ≤ length table.old }
+    requires room { IsTableOf (model graph.now) table.old }
     requires can { I.can_next order }
     requires ends { IsFinite (I.remaining order) }
     requires gives { AlwaysYields I.next_gives (λ k. k) order (walk A.Course.FORWARD (model graph.now).order) }
-    ensures values { table.new ≡ value_table (A.meaning analysis.now) (model graph.now).nodes (near_of A.Course.FORWARD A.Course.SKIP_DISABLED (model graph.now)) ++ drop (length (model graph.now).nodes) table.old }
-    ensures only { Solves (A.meaning analysis.now) (model graph.now).nodes (near_of A.Course.FORWARD A.Course.SKIP_DISABLED (model graph.now)) (take (length (model graph.now).nodes) table.new) }
+    ensures { table.new ≡ value_table (A.meaning analysis.now) (model graph.now).nodes (near_of A.Course.FORWARD A.Course.SKIP_DISABLED (model graph.now)) ++ drop (length (model graph.now).nodes) table.old }
 {
     for node in order {
         let at = node as usize;

@@ -1,6 +1,7 @@
 // The value of one node.
-ghost use Rattle.std.specs.Prelude.{◌≡◌, ◌≤◌, length};
+ghost use Rattle.std.specs.Prelude.{◌≡◌, length};
 ghost use Rattle.graph.specs.Model.{model};
+ghost use Rattle.graph.specs.Tables.{IsTableOf};
 ghost use Rattle.analysis.specs.Near.{looking_along};
 
 use crate::analysis::{Course, TopoAnalysis};
@@ -15,7 +16,7 @@ pub struct Values<'a, A: TopoAnalysis> {
     pub(crate) graph: &'a RawInstGraph,
     pub(crate) analysis: &'a A,
     pub(crate) table: &'a [A::Value],
-    ghost room: { length (model graph.now).nodes ≤ length table.now },
+    ghost room: { IsTableOf (model graph.now) table.now },
 }
 
 // Which edges a run looks along: forwards a node's incoming ones, else its outgoing ones.
@@ -61,10 +62,9 @@ impl<A: TopoAnalysis> Values<'_, A> {
         ensures { result ≡ value_from (A.meaning self.now.analysis.now) A.Course.FORWARD A.Course.SKIP_DISABLED (model self.now.graph.now) self.now.table.now at }
     {
         let direction = looking_along(A::Course::FORWARD);
-        let disabled = self.graph.nodes()[at].disabled();
         if !A::Course::SKIP_DISABLED {
             self.join_all(at, self.graph.neighbors_directed(at, direction))
-        } else if disabled {
+        } else if self.graph.nodes()[at].disabled() {
             self.join_all(at, iter::empty())
         } else {
             self.join_all(at, WalkNeighbors::new(self.graph, at, direction))

@@ -10,5 +10,6 @@ pub mod Keeping
 pub mod Standings
 pub mod Seen
 pub mod Sound
+pub mod Rooms
 pub mod Placing
 pub mod Sealed

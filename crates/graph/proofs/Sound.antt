@@ -36,7 +36,7 @@ sound g = record {
 }
 
 -- ---- a node's neighbours
-below_all : (N : ℕ) (xs : List ℕ) → ((z : ℕ) → Among z xs → z < N) → Below N xs
+pub below_all : (N : ℕ) (xs : List ℕ) → ((z : ℕ) → Among z xs → z < N) → Below N xs
 below_all N [] h = tt
 below_all N (x ∷ xs) h = (h x (inl refl), below_all N xs (λ z a. h z (inr a)))
 

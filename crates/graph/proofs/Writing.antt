@@ -8,7 +8,7 @@ use Rattle.records.specs.declared.node.Node.{Node}
 use Rattle.records.specs.declared.node.Place.{Place}
 use Rattle.records.specs.Nodes.{no_node, is_disabled}
 use Rattle.graph.specs.Ordered.{OrdersAll}
-use Rattle.graph.specs.Order.{Within, Complete}
+use Rattle.graph.specs.Order.{OrdersNodes}
 use Rattle.graph.specs.Sealing.{with_places}
 use Rattle.graph.proofs.Disabled.{yes_put}
 use Rattle.graph.proofs.Placing.{length_places}
@@ -28,11 +28,7 @@ pub ordered_put : (ns : List Node) (es : List Edge) (order : List ℕ) (reach : 
 ordered_put ns es order reach i x there same o =
     let many = sym (length-set ns i x) in
     record {
-      long = o.long ∙ many;
-      within = subst (λ n. Within n order) many o.within;
-      complete = subst (λ n. Complete n order) many o.complete;
-      once = o.once;
-      topological = o.topological;
+      order = subst (λ n. OrdersNodes n es order) many o.order;
       reach_long = o.reach_long ∙ many;
       yes_or_disabled = yes_put ns reach i x there same o.yes_or_disabled;
       yes_goes_back = o.yes_goes_back;

@@ -5,6 +5,7 @@ pub mod Order
 pub mod Reach
 pub mod Ordered
 pub mod Model
+pub mod Tables
 pub mod Adding
 pub mod Hiding
 pub mod Cursors

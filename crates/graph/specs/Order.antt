@@ -27,3 +27,11 @@ Once order = (i : ℕ) → i < length order → stands_at order (slice_index ord
 -- the source of each edge stands before its target
 abbrev pub Topological : List Edge → List ℕ → Type 0
 Topological es order = (e : ℕ) → e < length es → stands_at order (slice_index_or es e no_edge).source < stands_at order (slice_index_or es e no_edge).target
+
+-- the order has each of the first n nodes once, and the source of each edge before its target
+pub record OrdersNodes (n : ℕ) (es : List Edge) (order : List ℕ) : Type 0 where
+  pub long : length order ≡ n
+  pub within : Within n order
+  pub complete : Complete n order
+  pub once : Once order
+  pub topological : Topological es order

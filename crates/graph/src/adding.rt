@@ -27,7 +27,7 @@ impl RawInstGraph {
         }
     }
 
-    // Adds a hidden node, and tells its number.
+    // Adds a hidden node, and tells its number. A kind comes with its item, as in the Rust.
     pub fn add_node(&mut self, kind: NodeKind, item: u32) -> Result<usize, Refusal>
         ensures { outcome result (model self.new) ≡ add_node kind item (model self.old) }
     {

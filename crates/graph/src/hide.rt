@@ -122,7 +122,7 @@ impl RawInstGraph {
         Ok(self.show_each(Visibility::Hidden, rest.iter().copied()))
     }
 
-    // What is left of a list after its first n entries that are shown.
+    // What is left of a list after its first n entries that are shown. A chain needs a closure that counts down.
     fn after_shown<'a>(&self, numbers: &'a [usize], n: usize) -> &'a [usize]
         ensures { result.now ≡ after_shown n numbers.now (model self.now) }
     {

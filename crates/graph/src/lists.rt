@@ -4,9 +4,9 @@ ghost use Rattle.arrayvec.specs.ArrayVec.{array_vec_len};
 ghost use Rattle.records.specs.declared.edge.Direction.TheVariants.{Outgoing, Incoming};
 ghost use Rattle.graph.specs.Links.{Chained};
 
-use crate::raw::{MAX_EDGES, MAX_NODES};
 use arrayvec::ArrayVec;
 use records::edge::Edge;
+use records::limits::{MAX_EDGES, MAX_NODES};
 
 // For one direction: each node's newest edge, and from each edge the next older one at the same node.
 // Links by number in two fixed tables, as petgraph has them: there is no heap, and an edge stands in two lists.

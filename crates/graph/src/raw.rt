@@ -11,19 +11,18 @@ ghost use Rattle.graph.specs.Tallies.{tally};
 use crate::lists::EdgeLists;
 use crate::stats::GraphStats;
 use arrayvec::ArrayVec;
+use records::limits::MAX_NODES;
 use records::node::Node;
 
-pub const MAX_NODES: usize = 1024;
-
-pub const MAX_EDGES: usize = 4096;
-
-// What sealing adds: an order of all nodes, and whether from a node one that is not disabled can be reached.
+// What sealing adds: an order of all nodes, and whether from a node one that is not disabled can be reached. Each is lent as
+// a slice, so neither is part of a node's record.
 #[derive(Drop)]
 pub struct Sealing {
     pub(crate) order: ArrayVec<u16, MAX_NODES>,
     pub(crate) reach: ArrayVec<bool, MAX_NODES>,
 }
 
+// It has no `impl Model`: clauses name its value by `model`, and the crates above reason from its ghost fields, by `sound`.
 #[derive(Drop)]
 pub struct RawInstGraph {
     pub(crate) nodes: ArrayVec<Node, MAX_NODES>,

@@ -1,13 +1,15 @@
 // What sealing writes into the graph.
 ghost use Rattle.std.specs.Prelude.{◌≡◌, ◌≤◌, true, length, replicate};
 ghost use Rattle.graph.specs.Model.{model};
-ghost use Rattle.graph.specs.Order.{Within, Complete, Once, Topological};
+ghost use Rattle.graph.specs.Order.{OrdersNodes};
 ghost use Rattle.records.specs.declared.stage.Stage.TheVariants.{Sealed};
 ghost use Rattle.graph.specs.Reach.{YesOrDisabled, YesGoesBack};
+ghost use Rattle.graph.specs.Tables.{IsTableOf};
 ghost use Rattle.graph.specs.Sealing.{with_places, sealed_in, with_reach};
 
-use crate::raw::{MAX_NODES, RawInstGraph, Sealing};
+use crate::raw::{RawInstGraph, Sealing};
 use arrayvec::ArrayVec;
+use records::limits::MAX_NODES;
 use records::node::{Node, Place};
 
 impl Sealing {
@@ -29,12 +31,8 @@ impl Sealing {
 impl RawInstGraph {
     // Seals the graph with an order of all nodes, and gives each node its place.
     pub fn seal_in_order(&mut self, places: &[Option<Place>], order: &[u16])
-        requires places { length (model self.old).nodes ≤ length places.now }
-        requires long { length order.now ≡ length (model self.old).nodes }
-        requires within { Within (length (model self.old).nodes) order.now }
-        requires complete { Complete (length (model self.old).nodes) order.now }
-        requires once { Once order.now }
-        requires topological { Topological (model self.old).edges order.now }
+        requires places { IsTableOf (model self.old) places.now }
+        requires order { OrdersNodes (length (model self.old).nodes) (model self.old).edges order.now }
         ensures { model self.new ≡ sealed_in places.now order.now (model self.old) }
     {
         put_places(&mut self.nodes, places);

@@ -32,6 +32,7 @@ impl GraphStats {
             return false;
         }
         self.generation = self.generation.wrapping_add(1);
+        // Two matches are plainer than a function that lends the counter of a state.
         match node.state {
             NodeState::Disabled => self.disabled -= 1,
             NodeState::Hidden => self.hidden -= 1,

@@ -18,7 +18,7 @@ use Rattle.records.specs.Walks.{Touched, Joins}
 use Rattle.tables.specs.Filled.{filled}
 use Rattle.graph.specs.declared.raw.RawInstGraph.{RawInstGraph}
 use Rattle.graph.specs.Model.{Model, Outcome, outcome, admitted, model, unless_refused}
-use Rattle.graph.specs.Order.{Within, Complete, Once, Topological}
+use Rattle.graph.specs.Order.{OrdersNodes}
 use Rattle.graph.specs.Sealing.{in_place, with_places, sealed_in, with_reach}
 use Rattle.walks.specs.Cycles.{acyclic_answer, left_blank, Tested}
 use Rattle.walks.proofs.Checking.{tested, short_answer}
@@ -177,9 +177,6 @@ module _ (g : RawInstGraph) (work : List Bool) (passed : Ok tt ≡ admission (mo
           record {
             acyclic = law.acyclic;
             stand = placed_alike (Joins m.edges) s.places (places_of two.nodes) same_place law.stand;
-            within = subst (Within N) order law.within;
-            complete = subst (Complete N) order law.complete;
-            once = subst Once order law.once;
-            topological = subst (Topological m.edges) order law.topological;
+            order = subst (OrdersNodes N m.edges) order law.order;
             tells = subst (λ q. TellsReach is_enabled (graph_in q) two.reach) (sym second) tells;
           }

@@ -1,6 +1,6 @@
 -- What a reach table tells, as the graph's type asks for it.
-use Rattle.std.proofs.Common.{◌≡◌, ℕ, Bool, true, false, not, ◌||◌, List, [], ◌∷◌, length, get_or, refl, ap, subst, inl, inr, ⊎_elim}
-use Rattle.std.proofs.lemmas.Bool.{cases_Bool}
+use Rattle.std.proofs.Common.{◌≡◌, ℕ, Bool, true, false, not, List, [], ◌∷◌, length, get_or, refl, ap, subst, inl, inr, ⊎_elim}
+use Rattle.std.proofs.lemmas.Bool.{cases_Bool, or_left, or_right}
 use Rattle.records.specs.Edges.{no_edge}
 use Rattle.records.specs.Nodes.{is_disabled}
 use Rattle.records.specs.Walks.{Joins}
@@ -12,19 +12,12 @@ use Rattle.routes.specs.Reach.{Reaches, TellsReach}
 use Rattle.reconnect.specs.Graphs.{graph_in}
 use Rattle.reconnect.specs.Reach.{is_enabled}
 
-either : (a b : Bool) → a ≡ true → a || b ≡ true
-either a b e = ap (λ x. x || b) e
-
-or_else : (a b : Bool) → b ≡ true → a || b ≡ true
-or_else true b e = refl
-or_else false b e = e
-
 module _ (m : Model) (table : List Bool) (tells : TellsReach is_enabled (graph_in m) table) where
   pub yes_or_disabled : YesOrDisabled m.nodes table
   yes_or_disabled n h =
       ⊎_elim
-      (λ (off : is_disabled (node_at m n) ≡ true). or_else (get_or table n false) (is_disabled (node_at m n)) off)
-      (λ (on : is_disabled (node_at m n) ≡ false). either (get_or table n false) (is_disabled (node_at m n)) ((tells n h).1 (n, h, ap not on, inl refl)))
+      (λ (off : is_disabled (node_at m n) ≡ true). or_right (get_or table n false) (is_disabled (node_at m n)) off)
+      (λ (on : is_disabled (node_at m n) ≡ false). or_left (get_or table n false) (is_disabled (node_at m n)) ((tells n h).1 (n, h, ap not on, inl refl)))
       (cases_Bool (is_disabled (node_at m n)))
 
   -- what a target reaches its source reaches
@@ -38,6 +31,6 @@ module _ (m : Model) (table : List Bool) (tells : TellsReach is_enabled (graph_i
       let b = (get_or m.edges e no_edge).target in
       ⊎_elim
       (λ (yes' : get_or table b false ≡ true).
-      either (get_or table a false) (not (get_or table b false)) ((tells a (ends e h).0).1 (further a b (e, (h, refl, refl)) ((tells b (ends e h).1).0 yes'))))
-      (λ (none : get_or table b false ≡ false). or_else (get_or table a false) (not (get_or table b false)) (ap not none))
+      or_left (get_or table a false) (not (get_or table b false)) ((tells a (ends e h).0).1 (further a b (e, (h, refl, refl)) ((tells b (ends e h).1).0 yes'))))
+      (λ (none : get_or table b false ≡ false). or_right (get_or table a false) (not (get_or table b false)) (ap not none))
       (cases_Bool (get_or table b false))

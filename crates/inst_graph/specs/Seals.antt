@@ -9,7 +9,7 @@ use Rattle.records.specs.declared.stage.Stage.TheVariants.{Open}
 use Rattle.records.specs.Stages.{admission}
 use Rattle.records.specs.Walks.{Acyclic, Lowest, Joins}
 use Rattle.graph.specs.Model.{Model, Outcome, done, refused, admitted}
-use Rattle.graph.specs.Order.{Within, Complete, Once, Topological}
+use Rattle.graph.specs.Order.{OrdersNodes}
 use Rattle.graph.specs.Sealing.{sealed_in, with_reach}
 use Rattle.walks.specs.Cycles.{left_blank}
 use Rattle.subgraph.specs.Places.{Placed}
@@ -47,10 +47,7 @@ pub record WellSealed (before after : Model) : Type 0 where
   pub acyclic : Acyclic (Joins before.edges)
   pub stand : Placed (Joins before.edges) (places_of after.nodes)
   -- each node stands in the order once, and the source of each edge before its target
-  pub within : Within (length before.nodes) after.order
-  pub complete : Complete (length before.nodes) after.order
-  pub once : Once after.order
-  pub topological : Topological before.edges after.order
+  pub order : OrdersNodes (length before.nodes) before.edges after.order
   -- the reach table tells from which nodes one that is not disabled can be reached
   pub tells : TellsReach is_enabled (graph_in after) after.reach
 

@@ -4,6 +4,7 @@ ghost use Rattle.std.specs.Prelude.{◌≡◌, true, length, take, IfOk, Ok, OnO
 ghost use Rattle.graph.specs.Model.{Model, empty, outcome};
 ghost use Rattle.graph.specs.Adding.{add_node, add_edge, node_record, stats_of};
 ghost use Rattle.graph.specs.Hiding.{disable, set_visibility, set_visibility_many, reset_visibility_to, keep_first_n};
+ghost use Rattle.graph.specs.Sound.{Sound};
 ghost use Rattle.graph.specs.HidingLaws.{named, Turned, KeptFirst};
 ghost use Rattle.analysis.specs.Near.{near_of};
 ghost use Rattle.analysis.specs.Rule.{Solves};
@@ -132,7 +133,8 @@ impl InstGraph {
 
     // How many nodes are hidden and disabled, and how many changes of states there were.
     pub fn stats(&self) -> GraphStats
-        ensures { result ≡ stats_of self.now }
+        ensures value { result ≡ stats_of self.now }
+        ensures sound { Sound self.now }
     {
         self.raw.stats()
     }

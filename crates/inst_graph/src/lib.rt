@@ -3,5 +3,5 @@
 
 pub mod calls;
 pub mod inst_graph;
-pub mod noting;
-pub mod seal;
+mod noting;
+mod seal;

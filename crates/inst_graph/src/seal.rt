@@ -20,6 +20,6 @@ pub(crate) fn seal(graph: &mut RawInstGraph, work: &mut [bool]) -> Result<usize,
     let parts = subgraphs(graph, work)?;
     let count = graph.nodes().len();
     graph.seal_in_order(&parts.places[..count], parts.topo_node_indices());
-    note_reach(graph, work)?;
+    note_reach(graph, work);
     Ok(parts.count)
 }

@@ -23,7 +23,7 @@ proper m good fine =
     up : (a b : ℕ) → Joins m.edges a b → stands_at m.order a < stands_at m.order b
     up a b (e, (h, s, t)) =
         subst (λ x. stands_at m.order a < stands_at m.order x) t
-        (subst (λ x. stands_at m.order x < stands_at m.order (get_or m.edges e no_edge).target) s (fine.topological e h))
+        (subst (λ x. stands_at m.order x < stands_at m.order (get_or m.edges e no_edge).target) s (fine.order.topological e h))
 
 -- and its table has room for all nodes
 pub run_says : (g : RawInstGraph) (entries : ℕ) → run_answer entries (model g) ≡ Ok tt → Proper (graph_in (model g)) × (length (model g).nodes ≤ entries)

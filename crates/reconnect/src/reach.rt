@@ -44,7 +44,7 @@ impl ReachKind for ReachNonDisabled {
 }
 
 // Whether a node of the kind can be reached from each node, itself included.
-#[derive_where(Clone, Copy)]
+#[derive_where(Clone, Copy, Default)]
 pub struct BwdReachableAnalysis<Kind: ReachKind>(pub PhantomData<Kind>);
 
 impl<Kind: ReachKind> TopoAnalysis for BwdReachableAnalysis<Kind> {
@@ -71,7 +71,7 @@ impl<Kind: ReachKind> TopoAnalysis for BwdReachableAnalysis<Kind> {
         _neighbour: &Node,
         value: bool,
     ) -> bool {
-        so_far | value
+        so_far || value
     }
 
     fn close(&self, so_far: bool, _at: usize, _node: &Node) -> bool {
@@ -85,6 +85,5 @@ pub fn reach<Kind: ReachKind>(graph: &RawInstGraph, table: &mut [bool]) -> Resul
     ensures values { table.new ≡ run_table (reach_meaning Kind.wanted) false false (model graph.now) table.old }
     ensures tells { result ≡ Ok tt → TellsReach Kind.wanted (graph_in (model graph.now)) (take (length (model graph.now).nodes) table.new) }
 {
-    let analysis: BwdReachableAnalysis<Kind> = BwdReachableAnalysis(PhantomData);
-    topo_analysis(graph, &analysis, table)
+    topo_analysis(graph, &BwdReachableAnalysis::<Kind>::default(), table)
 }

@@ -15,7 +15,7 @@ pub enum Direction {
 }
 
 impl Edge {
-    // The end at which one stands.
+    // The end at which one stands. A method for either end is plainer than one that is told which end.
     pub fn near(&self, direction: Direction) -> u16
         ensures { result ≡ near direction self.now }
     {

@@ -2,6 +2,7 @@
 #![tactic(auto)]
 
 pub mod edge;
+pub mod limits;
 pub mod node;
 pub mod refusal;
 pub mod sheet_refusal;

@@ -1,7 +1,7 @@
 // What a node is.
 ghost use Rattle.std.specs.Prelude.{◌≡◌, ok_or};
 ghost use Rattle.records.specs.Nodes.{asked, is_disabled, is_hidden, is_shown, kind_number, kind_of, state_of};
-ghost use Rattle.records.specs.Unknown.{unknown_kind, unknown_state};
+ghost use Rattle.records.specs.Unknown.{unknown};
 
 use std::error::Error;
 use std::fmt;
@@ -15,32 +15,32 @@ pub enum NodeState {
     Visible,
 }
 
-// A number that no state has.
+// A number that no state, or no kind, has.
 #[derive(Clone, Copy, PartialEq, Eq, Debug)]
-pub struct UnknownState(pub u8);
+pub struct UnknownNumber(pub u8);
+
+impl fmt::Display for UnknownNumber {
+    fn fmt<W: fmt::Write>(&self, f: &mut fmt::Formatter<W>) -> fmt::Result {
+        write!(f, "nothing has number {}", self.0)
+    }
+}
+
+impl Error for UnknownNumber {}
 
 impl TryFrom<u8> for NodeState {
-    type Error = UnknownState;
+    type Error = UnknownNumber;
 
-    ghost try_from_gives = { λ number state. state ≡ ok_or (state_of number) (unknown_state number) };
+    ghost try_from_gives = { λ number state. state ≡ ok_or (state_of number) (unknown number) };
 
-    fn try_from(number: u8) -> Result<Self, UnknownState> {
+    fn try_from(number: u8) -> Result<Self, UnknownNumber> {
         match number {
             0 => Ok(NodeState::Disabled),
             1 => Ok(NodeState::Hidden),
             2 => Ok(NodeState::Visible),
-            _ => Err(UnknownState(number)),
+            _ => Err(UnknownNumber(number)),
         }
     }
 }
-
-impl fmt::Display for UnknownState {
-    fn fmt<W: fmt::Write>(&self, f: &mut fmt::Formatter<W>) -> fmt::Result {
-        write!(f, "no state has number {}", self.0)
-    }
-}
-
-impl Error for UnknownState {}
 
 // The kinds are numbered from 0.
 #[derive(Clone, Copy, PartialEq, Eq, Debug, Default)]
@@ -62,16 +62,12 @@ impl From<NodeKind> for u8 {
     }
 }
 
-// A number that no kind has.
-#[derive(Clone, Copy, PartialEq, Eq, Debug)]
-pub struct UnknownKind(pub u8);
-
 impl TryFrom<u8> for NodeKind {
-    type Error = UnknownKind;
+    type Error = UnknownNumber;
 
-    ghost try_from_gives = { λ number kind. kind ≡ ok_or (kind_of number) (unknown_kind number) };
+    ghost try_from_gives = { λ number kind. kind ≡ ok_or (kind_of number) (unknown number) };
 
-    fn try_from(number: u8) -> Result<Self, UnknownKind> {
+    fn try_from(number: u8) -> Result<Self, UnknownNumber> {
         match number {
             0 => Ok(NodeKind::Instantiation),
             1 => Ok(NodeKind::ENode),
@@ -79,18 +75,10 @@ impl TryFrom<u8> for NodeKind {
             3 => Ok(NodeKind::TransEquality),
             4 => Ok(NodeKind::Proof),
             5 => Ok(NodeKind::Cdcl),
-            _ => Err(UnknownKind(number)),
+            _ => Err(UnknownNumber(number)),
         }
     }
 }
-
-impl fmt::Display for UnknownKind {
-    fn fmt<W: fmt::Write>(&self, f: &mut fmt::Formatter<W>) -> fmt::Result {
-        write!(f, "no kind has number {}", self.0)
-    }
-}
-
-impl Error for UnknownKind {}
 
 // The number of a node's subgraph, and where the node stands in that subgraph's order.
 #[derive(Clone, Copy, PartialEq, Eq, Debug)]
@@ -107,6 +95,7 @@ pub struct Node {
     pub place: Option<Place>,
 }
 
+// One method for each state, with the Rust's names.
 impl Node {
     pub fn disabled(&self) -> bool
         ensures { result ≡ is_disabled self.now }

@@ -2,6 +2,7 @@
 ghost use Rattle.std.specs.Prelude.{◌≡◌, Some};
 ghost use Rattle.records.specs.Refusals.{number, detail, refusal_line};
 
+use crate::limits::{MAX_EDGES, MAX_NODES};
 use std::error::Error;
 use std::fmt;
 
@@ -22,6 +23,7 @@ pub enum Refusal {
 }
 
 impl Refusal {
+    // The numbers and what comes with them are the interface, so each refusal has its own line in either table.
     pub fn number(&self) -> u8
         ensures { result ≡ number self.now }
     {
@@ -48,8 +50,8 @@ impl Refusal {
             Refusal::Sealed => 0,
             Refusal::StillOpen => 0,
             Refusal::UnknownNode(number) => *number,
-            Refusal::NodesFull => 1024,
-            Refusal::EdgesFull => 4096,
+            Refusal::NodesFull => MAX_NODES,
+            Refusal::EdgesFull => MAX_EDGES,
             Refusal::TableTooShort(needed) => *needed,
             Refusal::ClosedWalk(node) => *node,
             Refusal::NodeRowsTooFew(needed) => *needed,

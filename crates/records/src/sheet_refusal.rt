@@ -18,6 +18,7 @@ pub enum SheetRefusal {
 }
 
 impl SheetRefusal {
+    // The numbers go on where a graph's end; they are the interface.
     pub fn number(&self) -> u8
         ensures { result ≡ sheet_number self.now }
     {

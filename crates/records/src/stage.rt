@@ -23,7 +23,7 @@ pub enum Call {
     Listing,
 }
 
-// The stage and the call together say whether the call is taken up.
+// The stage and the call together say whether the call is taken up: one match, in which each stage's calls are read.
 pub fn admit(stage: Stage, call: Call) -> Result<(), Refusal>
     ensures { result ≡ admission stage call }
 {

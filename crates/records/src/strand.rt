@@ -3,14 +3,15 @@ ghost use Rattle.std.specs.Prelude.{◌≡◌};
 ghost use Rattle.records.specs.Strands.{present, has_strand, added, onward, give, cover, drop_if, take_on, neither_shown, only_source_shown};
 
 // How a strand comes from its source: over one edge, or past a node, to which it comes as that node's plain or marked
-// strand does.
+// strand does. As an Option the first case would be called None, and it is a path like the other.
 #[derive(Clone, Copy, PartialEq, Eq, Debug)]
 pub enum Path {
     Straight,
-    Past(usize, bool),
+    Past { node: usize, marked: bool },
 }
 
-// Whether a walk comes from the source over nodes that are not shown, and along which path, where one is kept.
+// Whether a walk comes from the source over nodes that are not shown, and along which path, where one is kept. Two Options
+// in one another would not say which of them is absent.
 #[derive(Clone, Copy, PartialEq, Eq, Debug)]
 pub enum Strand {
     Absent,
@@ -32,15 +33,11 @@ impl Strand {
     fn and(self, new: Strand) -> Strand
         ensures { result ≡ added self new }
     {
-        match new {
-            Strand::Absent => self,
-            Strand::Pathless => Strand::Pathless,
-            Strand::Along(path) => {
-                if self.present() {
-                    Strand::Pathless
-                } else {
-                    Strand::Along(path)
-                }
+        match (self, new) {
+            (held, Strand::Absent) => held,
+            (Strand::Absent, added) => added,
+            (Strand::Pathless | Strand::Along(_), Strand::Pathless | Strand::Along(_)) => {
+                Strand::Pathless
             }
         }
     }
@@ -52,7 +49,7 @@ impl Strand {
         match self {
             Strand::Absent => Strand::Absent,
             Strand::Pathless => Strand::Pathless,
-            Strand::Along(_) => Strand::Along(Path::Past(node, marked)),
+            Strand::Along(_) => Strand::Along(Path::Past { node, marked }),
         }
     }
 }
@@ -76,30 +73,25 @@ impl Strands {
     pub fn has_strand(self) -> bool
         ensures { result ≡ has_strand self }
     {
-        self.plain.present() | self.marked.present()
+        self.plain.present() || self.marked.present()
     }
 
-    fn insert(self, marked: bool, strand: Strand) -> Strands
+    fn insert(mut self, marked: bool, strand: Strand) -> Strands
         ensures { result ≡ give marked strand self }
     {
         if marked {
-            Strands {
-                marked: self.marked.and(strand),
-                ..self
-            }
+            self.marked = self.marked.and(strand);
         } else {
-            Strands {
-                plain: self.plain.and(strand),
-                ..self
-            }
+            self.plain = self.plain.and(strand);
         }
+        self
     }
 
     pub fn cover(self, by: bool) -> Strands
         ensures { result ≡ cover by self }
     {
         Strands {
-            covered: self.covered | by,
+            covered: self.covered || by,
             ..self
         }
     }
@@ -125,7 +117,8 @@ impl Strands {
             .insert(true, other.marked.past(prev, true))
     }
 
-    // An edge from a node that is not shown into one that is not shown.
+    // An edge from a node that is not shown into one that is not shown. The node's number and whether it is Hidden come as
+    // the analysis has them: a struct for a step would be made for each edge and taken apart at once.
     pub fn extend(self, other: Strands, prev: usize, hidden: bool) -> Strands
         ensures { result ≡ neither_shown hidden prev other self }
     {

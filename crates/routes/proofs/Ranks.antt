@@ -3,8 +3,10 @@ use Rattle.std.proofs.Common.{◌≡◌, ℕ, zero, suc, ◌+◌, ◌<◌, ◌�
 use Rattle.std.proofs.lemmas.Bool.{cases_lt}
 use Rattle.records.specs.declared.edge.Direction.TheVariants.{Incoming}
 use Rattle.records.specs.Walks.{Walk, Leads, Among, Joins, Acyclic}
+use Rattle.tables.specs.Steps.{Below}
 use Rattle.graph.specs.Order.{Ends}
 use Rattle.graph.proofs.Standings.{get_or_among, fewer}
+use Rattle.walk_neighbors.proofs.Each.{each_at}
 use Rattle.routes.proofs.Walking.{snoc}
 use Rattle.graph.proofs.Seen.{seen_joins, joins_seen}
 use Rattle.routes.specs.Graph.{Graph, source_of, target_of, parents}
@@ -12,16 +14,6 @@ use Rattle.routes.specs.Graph.{Graph, source_of, target_of, parents}
 Distinct : List ℕ → Type 0
 Distinct [] = Unit {0}
 Distinct (x ∷ xs) = (Among x xs → ⊥) × Distinct xs
-
-Below : ℕ → List ℕ → Type 0
-Below n [] = Unit {0}
-Below n (x ∷ xs) = (x < n) × Below n xs
-
-below_at : (n : ℕ) (xs : List ℕ) → Below n xs → (i : ℕ) → i < length xs → get_or xs i 0 < n
-unfolding Below
-below_at n [] b i h = absurd (omega arith)
-below_at n (x ∷ xs) b zero h = b.0
-below_at n (x ∷ xs) b (suc i) h = below_at n xs b.1 i (omega arith)
 
 distinct_at : (xs : List ℕ) → Distinct xs → (i j : ℕ) → i < length xs → j < length xs → get_or xs i 0 ≡ get_or xs j 0 → i ≡ j
 unfolding Distinct
@@ -33,7 +25,7 @@ distinct_at (x ∷ xs) d (suc i) (suc j) h k e = ap suc (distinct_at xs d.1 i j 
 
 -- a list of different numbers below n has at most n
 few : (n : ℕ) (xs : List ℕ) → Distinct xs → Below n xs → length xs ≤ n
-few n xs d b = fewer n (length xs) (λ i. get_or xs i 0) (below_at n xs b) (distinct_at xs d)
+few n xs d b = fewer n (length xs) (λ i. get_or xs i 0) (λ i h. each_at (λ k. k < n) xs i 0 b h) (distinct_at xs d)
 
 -- the largest f of a list's numbers, and 0
 top : (ℕ → ℕ) → List ℕ → ℕ
@@ -92,19 +84,18 @@ module _ (g : Graph) where
     walk_distinct a [] b w = (λ m. acyclic a (walk_to a [] b a w m), ((λ m. absurd m), tt))
     walk_distinct a (m ∷ ms) b w = (λ i. acyclic a (walk_to a (m ∷ ms) b a w i), walk_distinct m ms b w.1)
 
-    pub from_below : (a b : ℕ) → Joins g.edges a b → a < length g.nodes
+    from_below : (a b : ℕ) → Joins g.edges a b → a < length g.nodes
     from_below a b d = subst (λ (x : ℕ). x < length g.nodes) d.1.1 (ends d.0 d.1.0).0
 
-    pub to_below : (a b : ℕ) → Joins g.edges a b → b < length g.nodes
+    to_below : (a b : ℕ) → Joins g.edges a b → b < length g.nodes
     to_below a b d = subst (λ (x : ℕ). x < length g.nodes) d.1.2 (ends d.0 d.1.0).1
 
     walk_below : (a : ℕ) (ms : List ℕ) (b : ℕ) → Walk (Joins g.edges) a ms b → Below (length g.nodes) (a ∷ (ms ++ (b ∷ [])))
-    unfolding Below
     walk_below a [] b w = (from_below a b w, (to_below a b w, tt))
     walk_below a (m ∷ ms) b w = (from_below a m w.0, walk_below m ms b w.1)
 
     -- a walk has fewer edges than there are nodes
-    pub walk_short : (a : ℕ) (ms : List ℕ) (b : ℕ) → Walk (Joins g.edges) a ms b → length ms + 2 ≤ length g.nodes
+    walk_short : (a : ℕ) (ms : List ℕ) (b : ℕ) → Walk (Joins g.edges) a ms b → length ms + 2 ≤ length g.nodes
     walk_short a ms b w =
         let f : length (a ∷ (ms ++ (b ∷ []))) ≤ length g.nodes = few (length g.nodes) (a ∷ (ms ++ (b ∷ []))) (walk_distinct a ms b w) (walk_below a ms b w) in
         let s : length (ms ++ (b ∷ [])) ≡ length ms + 1 = length-append ms (b ∷ []) in

@@ -41,7 +41,7 @@ module _ (wanted : Node → Bool) (g : Graph) (proper : Proper g) where
   below a b e = edge_to (ranked g proper) a b e
 
   worth_reaches : (d n : ℕ) → n < length g.nodes → worth (reach_meaning wanted) g.nodes (children g) d n ≡ true → Reaches wanted g n
-  worth_reaches zero n h e = let z : ◌≡◌ {A = ℕ} 0 1 = cc in absurd (omega arith)
+  worth_reaches zero n h e = absurd cc
   worth_reaches (suc d) n h e =
       ⊎_elim
       (λ (here : wanted (node_of g n) ≡ true). (n, h, here, inl refl))

@@ -2,6 +2,7 @@
 use Rattle.std.proofs.Common.{◌≡◌, ℕ, ◌<◌, ◌≤◌, Bool, true, false, cond, eqb, List, [], ◌∷◌, ◌++◌, length, Some, None, Option, sym, refl, subst, inl, inr, ⊎_elim, arith}
 use mathlib.Core.Bool.{false≢true}
 use Rattle.std.proofs.lemmas.Bool.{eqb-true, eq-eqb}
+use Rattle.std.specs.List.{flat_map, range_with_len}
 use Rattle.records.specs.declared.strand.Strand.{Strand}
 use Rattle.records.specs.declared.strand.Strand.TheVariants.{Absent, Pathless, Along}
 use Rattle.records.specs.declared.strand.Strands.{Strands}
@@ -11,11 +12,10 @@ use Rattle.graph.proofs.Standings.{among_either, among_left, among_right}
 use Rattle.routes.proofs.Walking.{snoc, leads_map}
 use Rattle.routes.specs.Graph.{Graph, source_of, target_of, shown, Shown, between}
 use Rattle.routes.specs.Laws.{Thread, Follows, Stands, AllStand}
-use Rattle.routes.specs.Lists.{only_if, joined, up_to}
 use Rattle.routes.specs.Strands.{entry, trail}
-use Rattle.routes.specs.View.{Row, direct, across, row_source, row_target, strand_row, strand_rows, newest_rows, edge_rows, target_rows, rows, RowStep}
+use Rattle.routes.specs.View.{Row, only_if, direct, across, row_source, row_target, strand_row, strand_rows, newest_rows, edge_rows, target_rows, rows, RowStep}
 use Rattle.routes.proofs.Edges.{between_runs, runs_between}
-use Rattle.routes.proofs.Lists.{among_joined, joined_among, among_up_to, up_to_among, among_only_if, only_if_among}
+use Rattle.routes.proofs.Lists.{among_flat_map, flat_map_among, among_first, first_among, among_only_if, only_if_among}
 use Rattle.routes.proofs.Settled.{Settled}
 use Rattle.routes.proofs.Threads.{Sound, sound}
 
@@ -27,9 +27,9 @@ module _ (g : Graph) (T : ℕ → List Strands) where
   -- a row of an edge into a shown target is a row of the view
   row_of_edge : (r : Row) (h t e : ℕ) → Runs g.edges e h t → Shown g t → Among r (edge_rows g T t h e) → Among r (rows g T)
   row_of_edge r h t e run st m =
-      joined_among r (target_rows g T) (up_to (length g.nodes)) t (up_to_among (length g.nodes) t st.0)
+      flat_map_among r (target_rows g T) (range_with_len 0 (length g.nodes)) t (first_among (length g.nodes) t st.0)
       (only_if_among r (shown g t) _ st.1
-      (joined_among r (λ e. only_if (eqb (target_of g e) t) (edge_rows g T t (source_of g e) e)) (up_to (length g.edges)) e (up_to_among (length g.edges) e run.0)
+      (flat_map_among r (λ e. only_if (eqb (target_of g e) t) (edge_rows g T t (source_of g e) e)) (range_with_len 0 (length g.edges)) e (first_among (length g.edges) e run.0)
       (only_if_among r (eqb (target_of g e) t) (edge_rows g T t (source_of g e) e) (eq-eqb (target_of g e) t run.2)
       (subst (λ (x : ℕ). Among r (edge_rows g T t x e)) (sym run.1) m))))
 
@@ -55,10 +55,10 @@ module _ (g : Graph) (T : ℕ → List Strands) where
       let q = strand_has_row sole u t e true (strand true (entry (T u) h)) (trail (length g.nodes) (T u) (strand true (entry (T u) h))) p in
       (q.0, only_if_among _ (shown g u) _ su (among_right _ (strand_row sole u t e false (strand false (entry (T u) h)) (trail (length g.nodes) (T u) (strand false (entry (T u) h)))) _ q.1))
 
-  sources_have_row : (sole : Bool) (u h t e : ℕ) (mark : Bool) → Shown g u → present (strand mark (entry (T u) h)) ≡ true → (o : Option (List ℕ)) × Among (across u t e mark o) (joined (strand_rows g T sole h t e) (up_to (length g.nodes)))
+  sources_have_row : (sole : Bool) (u h t e : ℕ) (mark : Bool) → Shown g u → present (strand mark (entry (T u) h)) ≡ true → (o : Option (List ℕ)) × Among (across u t e mark o) (flat_map (strand_rows g T sole h t e) (range_with_len 0 (length g.nodes)))
   sources_have_row sole u h t e mark su p =
       let q = strands_have_row sole u h t e mark su.1 p in
-      (q.0, joined_among _ (strand_rows g T sole h t e) (up_to (length g.nodes)) u (up_to_among (length g.nodes) u su.0) q.1)
+      (q.0, flat_map_among _ (strand_rows g T sole h t e) (range_with_len 0 (length g.nodes)) u (first_among (length g.nodes) u su.0) q.1)
 
   newest_has_row : (u h t e : ℕ) (mark : Bool) (l : List ℕ) → Among e l → Shown g u → present (strand mark (entry (T u) h)) ≡ true → (k : ℕ) × (o : Option (List ℕ)) × Among k l × Among (across u t k mark o) (newest_rows g T h t k l)
   newest_has_row u h t e mark [] m su p = absurd m
@@ -103,10 +103,10 @@ module _ (g : Graph) (live : List Bool) (T : ℕ → List Strands) (rank : ℕ �
       (strand_stands r sole u h t e true (strand true (entry (T u) h)) su sn run (omega arith) (sound g rank st.ranked live u (T u) (st.obeys u su) h lh sh true))
       (among_either r (strand_row sole u t e false (strand false (entry (T u) h)) (trail (length g.nodes) (T u) (strand false (entry (T u) h)))) _ q.1)
 
-  sources_stand : (r : Row) (sole : Bool) (h t e : ℕ) → h < length g.nodes → shown g h ≡ false → Shown g t → Runs g.edges e h t → Among r (joined (strand_rows g T sole h t e) (up_to (length g.nodes))) → Stands g r
+  sources_stand : (r : Row) (sole : Bool) (h t e : ℕ) → h < length g.nodes → shown g h ≡ false → Shown g t → Runs g.edges e h t → Among r (flat_map (strand_rows g T sole h t e) (range_with_len 0 (length g.nodes))) → Stands g r
   sources_stand r sole h t e lh sh sn run m =
-      let q = among_joined r (strand_rows g T sole h t e) (up_to (length g.nodes)) m in
-      strands_stand r sole q.0 h t e (among_up_to (length g.nodes) q.0 q.1) lh sh sn run q.2
+      let q = among_flat_map r (strand_rows g T sole h t e) (range_with_len 0 (length g.nodes)) m in
+      strands_stand r sole q.0 h t e (among_first (length g.nodes) q.0 q.1) lh sh sn run q.2
 
   newest_stands : (r : Row) (h t e : ℕ) (l : List ℕ) → h < length g.nodes → shown g h ≡ false → Shown g t → Runs g.edges e h t → Among r (newest_rows g T h t e l) → Stands g r
   newest_stands r h t e [] lh sh sn run m = absurd m
@@ -120,14 +120,14 @@ module _ (g : Graph) (live : List Bool) (T : ℕ → List Strands) (rank : ℕ �
 
   pub rows_stand : AllStand g (rows g T)
   rows_stand r m =
-      let a = among_joined r (target_rows g T) (up_to (length g.nodes)) m in
+      let a = among_flat_map r (target_rows g T) (range_with_len 0 (length g.nodes)) m in
       let t : ℕ = a.0 in
       let b = among_only_if r (shown g t) _ a.2 in
-      let c = among_joined r (λ e. only_if (eqb (target_of g e) t) (edge_rows g T t (source_of g e) e)) (up_to (length g.edges)) b.1 in
+      let c = among_flat_map r (λ e. only_if (eqb (target_of g e) t) (edge_rows g T t (source_of g e) e)) (range_with_len 0 (length g.edges)) b.1 in
       let e : ℕ = c.0 in
       let d = among_only_if r (eqb (target_of g e) t) (edge_rows g T t (source_of g e) e) c.2 in
-      let le : e < length g.edges = among_up_to (length g.edges) e c.1 in
-      edge_stands (shown g (source_of g e)) r (source_of g e) t e refl (st.ranked.ends e le).0 (among_up_to (length g.nodes) t a.1, b.0)
+      let le : e < length g.edges = among_first (length g.edges) e c.1 in
+      edge_stands (shown g (source_of g e)) r (source_of g e) t e refl (st.ranked.ends e le).0 (among_first (length g.nodes) t a.1, b.0)
       (le, refl, eqb-true (target_of g e) t d.0) d.1
 
   -- the graph leads where a row leads

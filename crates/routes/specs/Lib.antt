@@ -1,4 +1,3 @@
-pub mod Lists
 pub mod Graph
 pub mod Reach
 pub mod Strands

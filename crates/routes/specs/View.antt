@@ -1,5 +1,6 @@
 -- The edge rows of a view.
 use Rattle.std.specs.Prelude.{◌≡◌, ℕ, Bool, true, false, cond, List, [], ◌∷◌, ◌++◌, length, Some, None, Option, ◌==◌}
+use Rattle.std.specs.List.{flat_map, range_with_len}
 use Rattle.records.specs.declared.strand.Strand.{Strand}
 use Rattle.records.specs.declared.strand.Strand.TheVariants.{Absent, Pathless, Along}
 use Rattle.records.specs.declared.strand.Strands.{Strands}
@@ -7,7 +8,6 @@ use Rattle.records.specs.Nodes.{is_shown}
 use Rattle.analysis.specs.Rule.{value_table}
 use Rattle.records.specs.Strands.{strand}
 use Rattle.records.specs.Walks.{Among}
-use Rattle.routes.specs.Lists.{only_if, joined, up_to}
 use Rattle.routes.specs.Graph.{Graph, shown, source_of, target_of, parents, children, between}
 use Rattle.routes.specs.Reach.{reach_meaning}
 use Rattle.routes.specs.Strands.{strand_meaning, entry, trail}
@@ -24,6 +24,11 @@ row_source (across u t e mark path) = u
 abbrev pub row_target : Row → ℕ
 row_target (direct u t e) = t
 row_target (across u t e mark path) = t
+
+-- the list, or nothing where the test fails
+abbrev pub only_if : {A : Type 0} → Bool → List A → List A
+only_if true xs = xs
+only_if false xs = []
 
 -- the row of a strand at h: its path is missing if it is pathless, or if h has several edges to the target
 abbrev pub strand_row : (sole : Bool) (u t e : ℕ) (mark : Bool) → Strand → List ℕ → List Row
@@ -43,19 +48,19 @@ module _ (g : Graph) (tables : ℕ → List Strands) where
   -- e among all edges from h to t: only the newest gives rows, of each source ascending
   abbrev pub newest_rows : ℕ → ℕ → ℕ → List ℕ → List Row
   newest_rows h t e [] = []
-  newest_rows h t e (k ∷ []) = only_if (k == e) (joined (strand_rows true h t e) (up_to (length g.nodes)))
-  newest_rows h t e (k ∷ (j ∷ js)) = only_if (k == e) (joined (strand_rows false h t e) (up_to (length g.nodes)))
+  newest_rows h t e (k ∷ []) = only_if (k == e) (flat_map (strand_rows true h t e) (range_with_len 0 (length g.nodes)))
+  newest_rows h t e (k ∷ (j ∷ js)) = only_if (k == e) (flat_map (strand_rows false h t e) (range_with_len 0 (length g.nodes)))
 
   abbrev pub edge_rows : ℕ → ℕ → ℕ → List Row
   edge_rows t h e = cond (shown g h) (direct h t e ∷ []) (newest_rows h t e (between g (length g.edges) h t))
 
   abbrev pub target_rows : ℕ → List Row
   target_rows t =
-      only_if (shown g t) (joined (λ e. only_if (target_of g e == t) (edge_rows t (source_of g e) e)) (up_to (length g.edges)))
+      only_if (shown g t) (flat_map (λ e. only_if (target_of g e == t) (edge_rows t (source_of g e) e)) (range_with_len 0 (length g.edges)))
 
   -- by target, then by edge
   abbrev pub rows : List Row
-  rows = joined target_rows (up_to (length g.nodes))
+  rows = flat_map target_rows (range_with_len 0 (length g.nodes))
 
   -- some row goes from a to b
   abbrev pub RowStep : ℕ → ℕ → Type 0

@@ -1,5 +1,5 @@
 -- What the answer to a sheet, and the graph that is left, say of its bytes.
-use Rattle.std.proofs.Common.{◌≡◌, ℕ, ◌<◌, List, get_or, IfOk, Ok, Err, Result, sym, refl, ap, ◌∙◌, arith, w8, Fits}
+use Rattle.std.proofs.Common.{◌≡◌, ℕ, ◌<◌, List, get_or, IfOk, Ok, Err, Result, sym, refl, ap, ◌∙◌, w8, Fits}
 use Rattle.std.proofs.ByRecursion.{All-from_get_or}
 use Rattle.records.specs.declared.sheet_refusal.SheetRefusal.{SheetRefusal}
 use Rattle.graph.specs.Model.{Model}
@@ -15,7 +15,7 @@ bytes_fit bs f = All-from_get_or (λ b. b < 256) bs 0 (λ i l. (f i).fits)
 module _ (bs : List ℕ) (r : Result (Unit {0}) SheetRefusal) (m' : Model) (a : r ≡ answered (sheet_read bs)) (f : m' ≡ left (sheet_read bs)) where
   exact_by : Bytes bs → (q : Result Model SheetRefusal) → sheet_read bs ≡ q → (r₀ : Result (Unit {0}) SheetRefusal) → r ≡ r₀ → IfOk r₀ (λ _. (bs ≡ sheet_of m') × Given m')
   exact_by b q e (Err x) i = tt
-  exact_by b (Err y) e (Ok _) i = let z : ◌≡◌ {A = ℕ} 0 1 = cc in absurd (omega arith)
+  exact_by b (Err y) e (Ok _) i = absurd cc
   exact_by b (Ok m) e (Ok _) i = same_bytes bs m' b (e ∙ ap (λ x. Ok x) (sym (f ∙ ap left e)))
 
   -- accepted bytes are the sheet of the graph that is left

@@ -38,17 +38,17 @@ record Parts (o : Option NodeState) (q : Option NodeKind) (i : ℕ) (r : SheetNo
 
 row_parts : (p : ℕ) (o : Option NodeState) (q : Option NodeKind) (i : ℕ) (r : SheetNode) → row_of p o q i ≡ Ok r → Parts o q i r
 row_parts p (Some s) (Some k) i r h = record { state_is = cc; kind_is = cc; item_is = cc }
-row_parts p (Some s) None i r h = let z : ◌≡◌ {A = ℕ} 0 1 = cc in absurd (omega arith)
-row_parts p None q i r h = let z : ◌≡◌ {A = ℕ} 0 1 = cc in absurd (omega arith)
+row_parts p (Some s) None i r h = absurd cc
+row_parts p None q i r h = absurd cc
 
 -- a row that was read is its node's bytes, and its item is small
 pub row_same : (p : ℕ) (xs : List ℕ) (r : SheetNode) → Bytes xs → node_row p xs ≡ Ok r → (xs ≡ node_bytes (node_of r) ++ drop 6 xs) × (r.item < 2 ^ 32)
-row_same p [] r b h = let z : ◌≡◌ {A = ℕ} 0 1 = cc in absurd (omega arith)
-row_same p (x ∷ []) r b h = let z : ◌≡◌ {A = ℕ} 0 1 = cc in absurd (omega arith)
-row_same p (x ∷ y ∷ []) r b h = let z : ◌≡◌ {A = ℕ} 0 1 = cc in absurd (omega arith)
-row_same p (x ∷ y ∷ a ∷ []) r b h = let z : ◌≡◌ {A = ℕ} 0 1 = cc in absurd (omega arith)
-row_same p (x ∷ y ∷ a ∷ e ∷ []) r b h = let z : ◌≡◌ {A = ℕ} 0 1 = cc in absurd (omega arith)
-row_same p (x ∷ y ∷ a ∷ e ∷ c ∷ []) r b h = let z : ◌≡◌ {A = ℕ} 0 1 = cc in absurd (omega arith)
+row_same p [] r b h = absurd cc
+row_same p (x ∷ []) r b h = absurd cc
+row_same p (x ∷ y ∷ []) r b h = absurd cc
+row_same p (x ∷ y ∷ a ∷ []) r b h = absurd cc
+row_same p (x ∷ y ∷ a ∷ e ∷ []) r b h = absurd cc
+row_same p (x ∷ y ∷ a ∷ e ∷ c ∷ []) r b h = absurd cc
 row_same p (x ∷ y ∷ a ∷ e ∷ c ∷ d ∷ xs) r (bx, (by, (ba, (be, (bc, (bd, bs)))))) h =
     let all = x ∷ y ∷ a ∷ e ∷ c ∷ d ∷ xs in
     let fits : ltb (length all) 6 ≡ false = le-ltb (length all) 6 (omega arith) in
@@ -61,10 +61,10 @@ row_same p (x ∷ y ∷ a ∷ e ∷ c ∷ d ∷ xs) r (bx, (by, (ba, (be, (bc, (
     (ap (λ z. z ++ xs) (sym (ap (λ z. state_byte r.state ∷ kind_number r.kind ∷ z) g ∙ ap (λ z. z ∷ kind_number r.kind ∷ a ∷ e ∷ c ∷ d ∷ []) (sym s) ∙ ap (λ z. x ∷ z ∷ a ∷ e ∷ c ∷ d ∷ []) (sym k))), omega arith)
 
 pub edge_row_same : (p : ℕ) (xs : List ℕ) (e : Edge) → Bytes xs → edge_row p xs ≡ Ok e → xs ≡ edge_bytes e ++ drop 4 xs
-edge_row_same p [] e b h = let z : ◌≡◌ {A = ℕ} 0 1 = cc in absurd (omega arith)
-edge_row_same p (x ∷ []) e b h = let z : ◌≡◌ {A = ℕ} 0 1 = cc in absurd (omega arith)
-edge_row_same p (x ∷ y ∷ []) e b h = let z : ◌≡◌ {A = ℕ} 0 1 = cc in absurd (omega arith)
-edge_row_same p (x ∷ y ∷ a ∷ []) e b h = let z : ◌≡◌ {A = ℕ} 0 1 = cc in absurd (omega arith)
+edge_row_same p [] e b h = absurd cc
+edge_row_same p (x ∷ []) e b h = absurd cc
+edge_row_same p (x ∷ y ∷ []) e b h = absurd cc
+edge_row_same p (x ∷ y ∷ a ∷ []) e b h = absurd cc
 edge_row_same p (x ∷ y ∷ a ∷ c ∷ xs) e (bx, (by, (ba, (bc, bs)))) h =
     let all = x ∷ y ∷ a ∷ c ∷ xs in
     let made = edge (x * 256 + y) (a * 256 + c) in
@@ -75,8 +75,8 @@ edge_row_same p (x ∷ y ∷ a ∷ c ∷ xs) e (bx, (by, (ba, (bc, bs)))) h =
     sym (ap (λ q. edge_bytes q ++ xs) (sym same) ∙ ap (λ u. u ++ xs) bytes)
 
 pub count_same : (p : ℕ) (xs : List ℕ) (k : ℕ) → Bytes xs → count_at p xs ≡ Ok k → xs ≡ two k ++ drop 2 xs
-count_same p [] k b h = let z : ◌≡◌ {A = ℕ} 0 1 = cc in absurd (omega arith)
-count_same p (x ∷ []) k b h = let z : ◌≡◌ {A = ℕ} 0 1 = cc in absurd (omega arith)
+count_same p [] k b h = absurd cc
+count_same p (x ∷ []) k b h = absurd cc
 count_same p (x ∷ y ∷ xs) k (bx, (by, bs)) h =
     let all = x ∷ y ∷ xs in
     let fits : ltb (length all) 2 ≡ false = le-ltb (length all) 2 (omega arith) in

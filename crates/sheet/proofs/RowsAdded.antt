@@ -1,5 +1,5 @@
 -- What an open graph makes of a row.
-use Rattle.std.proofs.Common.{◌≡◌, ℕ, ◌<◌, ◌≤◌, ◌⊎◌, List, [], ◌∷◌, ◌++◌, length, None, Ok, refl, ap, inl, inr, arith, rules}
+use Rattle.std.proofs.Common.{◌≡◌, ℕ, ◌<◌, ◌≤◌, ◌⊎◌, List, [], ◌∷◌, ◌++◌, length, None, Ok, refl, ap, inl, inr, rules}
 use Rattle.std.proofs.lemmas.List.{set_at, get_or_at}
 use Rattle.std.proofs.lemmas.Bool.{cases_lt}
 use Rattle.records.specs.declared.edge.Edge.{Edge}
@@ -40,7 +40,7 @@ node_fits p r m m' o h = go (cases_lt (length m.nodes) 1024)
   where
     go : (length m.nodes < 1024) ⊎ (1024 ≤ length m.nodes) → NodeFits (node_of r) m m'
     go (inl l) = let e = ap (at_row p) (node_added_lem (node_of r) m o l refl) in record { after = cc; room = l }
-    go (inr l) = let e : node_added r m ≡ refused NodesFull m = search rules in let z : ◌≡◌ {A = ℕ} 0 1 = cc in absurd (omega arith)
+    go (inr l) = let e : node_added r m ≡ refused NodesFull m = search rules in absurd cc
 
 pub edge_added_lem : (e : Edge) (m : Model) → m.stage ≡ Open → length m.edges < 4096 → Inside (length m.nodes) e → edge_added e m ≡ done (length m.edges) (with_edge e m)
 edge_added_lem e m o h i = search rules
@@ -56,6 +56,6 @@ edge_fits p e m m' o h = go (cases_lt e.source (length m.nodes)) (cases_lt e.tar
   where
     go : (e.source < length m.nodes) ⊎ (length m.nodes ≤ e.source) → (e.target < length m.nodes) ⊎ (length m.nodes ≤ e.target) → (length m.edges < 4096) ⊎ (4096 ≤ length m.edges) → EdgeFits e m m'
     go (inl s) (inl t) (inl l) = let a = edge_added_lem e m o l (s, t) in record { after = cc; inside = (s, t); room = l }
-    go (inl s) (inl t) (inr l) = let a : edge_added e m ≡ refused EdgesFull m = search rules in let z : ◌≡◌ {A = ℕ} 0 1 = cc in absurd (omega arith)
-    go (inl s) (inr t) l = let a : edge_added e m ≡ refused (UnknownNode e.target) m = search rules in let z : ◌≡◌ {A = ℕ} 0 1 = cc in absurd (omega arith)
-    go (inr s) t l = let a : edge_added e m ≡ refused (UnknownNode e.source) m = search rules in let z : ◌≡◌ {A = ℕ} 0 1 = cc in absurd (omega arith)
+    go (inl s) (inl t) (inr l) = let a : edge_added e m ≡ refused EdgesFull m = search rules in absurd cc
+    go (inl s) (inr t) l = let a : edge_added e m ≡ refused (UnknownNode e.target) m = search rules in absurd cc
+    go (inr s) t l = let a : edge_added e m ≡ refused (UnknownNode e.source) m = search rules in absurd cc

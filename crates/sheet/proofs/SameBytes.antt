@@ -37,7 +37,7 @@ nodes_got zero p bs m m' b o f h =
 nodes_got (suc k) p bs m m' b o f h = rows (λ m₂ o₂ f₂ h₂. nodes_got k (p + 6) bs m₂ m' b o₂ f₂ h₂) (node_row p (drop p bs)) refl h
   where
     added : ((m₂ : Model) → m₂.stage ≡ Open → length m₂.nodes ≤ 1024 → nodes_read k (p + 6) bs m₂ ≡ Ok m' → NodesGot k (p + 6) bs m₂ m') → (r : SheetNode) → node_row p (drop p bs) ≡ Ok r → (q : Result Model SheetRefusal) → at_row p (node_added r m) ≡ q → next q (nodes_read k (p + 6) bs) ≡ Ok m' → NodesGot (suc k) p bs m m'
-    added again r e (Err x) a g = let z : ◌≡◌ {A = ℕ} 0 1 = cc in absurd (omega arith)
+    added again r e (Err x) a g = absurd cc
     added again r e (Ok m₁) a g =
         let n = node_of r in
         let got = node_fits p r m m₁ o a in
@@ -59,7 +59,7 @@ nodes_got (suc k) p bs m m' b o f h = rows (λ m₂ o₂ f₂ h₂. nodes_got k 
         }
 
     rows : ((m₂ : Model) → m₂.stage ≡ Open → length m₂.nodes ≤ 1024 → nodes_read k (p + 6) bs m₂ ≡ Ok m' → NodesGot k (p + 6) bs m₂ m') → (q : Result SheetNode SheetRefusal) → node_row p (drop p bs) ≡ q → next q (λ r. next (at_row p (node_added r m)) (nodes_read k (p + 6) bs)) ≡ Ok m' → NodesGot (suc k) p bs m m'
-    rows again (Err x) e g = let z : ◌≡◌ {A = ℕ} 0 1 = cc in absurd (omega arith)
+    rows again (Err x) e g = absurd cc
     rows again (Ok r) e g = added again r e (at_row p (node_added r m)) refl g
 
 -- what edge rows that were read say
@@ -75,7 +75,7 @@ edges_got : (k p : ℕ) (bs : List ℕ) (m m' : Model) → Bytes bs → m.stage 
 edges_got zero p bs m m' b o f h = go (cases_lt p (length bs))
   where
     go : (p < length bs) ⊎ (length bs ≤ p) → EdgesGot zero p bs m m'
-    go (inl l) = let e : cond (ltb p (length bs)) (Err (Misfit p)) (Ok m) ≡ Err (Misfit p) = cond-true (ltb p (length bs)) (Err (Misfit p)) (Ok m) (lt-ltb p (length bs) l) in let z : ◌≡◌ {A = ℕ} 0 1 = cc in absurd (omega arith)
+    go (inl l) = let e : cond (ltb p (length bs)) (Err (Misfit p)) (Ok m) ≡ Err (Misfit p) = cond-true (ltb p (length bs)) (Err (Misfit p)) (Ok m) (lt-ltb p (length bs) l) in absurd cc
     go (inr l) =
         let e : cond (ltb p (length bs)) (Err (Misfit p)) (Ok m) ≡ Ok m = cond-false (ltb p (length bs)) (Err (Misfit p)) (Ok m) (le-ltb p (length bs) l) in
         let got : m ≡ m' = cc in
@@ -83,7 +83,7 @@ edges_got zero p bs m m' b o f h = go (cases_lt p (length bs))
 edges_got (suc k) p bs m m' b o f h = rows (λ m₂ o₂ f₂ h₂. edges_got k (p + 4) bs m₂ m' b o₂ f₂ h₂) (edge_row p (drop p bs)) refl h
   where
     added : ((m₂ : Model) → m₂.stage ≡ Open → length m₂.edges ≤ 4096 → edges_read k (p + 4) bs m₂ ≡ Ok m' → EdgesGot k (p + 4) bs m₂ m') → (n : Edge) → edge_row p (drop p bs) ≡ Ok n → (q : Result Model SheetRefusal) → at_row p (edge_added n m) ≡ q → next q (edges_read k (p + 4) bs) ≡ Ok m' → EdgesGot (suc k) p bs m m'
-    added again n e (Err x) a g = let z : ◌≡◌ {A = ℕ} 0 1 = cc in absurd (omega arith)
+    added again n e (Err x) a g = absurd cc
     added again n e (Ok m₁) a g =
         let got = edge_fits p n m m₁ o a in
         let on : edges_read k (p + 4) bs (with_edge n m) ≡ Ok m' = subst (λ x. edges_read k (p + 4) bs x ≡ Ok m') got.after g in
@@ -102,7 +102,7 @@ edges_got (suc k) p bs m m' b o f h = rows (λ m₂ o₂ f₂ h₂. edges_got k 
         }
 
     rows : ((m₂ : Model) → m₂.stage ≡ Open → length m₂.edges ≤ 4096 → edges_read k (p + 4) bs m₂ ≡ Ok m' → EdgesGot k (p + 4) bs m₂ m') → (q : Result Edge SheetRefusal) → edge_row p (drop p bs) ≡ q → next q (λ n. next (at_row p (edge_added n m)) (edges_read k (p + 4) bs)) ≡ Ok m' → EdgesGot (suc k) p bs m m'
-    rows again (Err x) e g = let z : ◌≡◌ {A = ℕ} 0 1 = cc in absurd (omega arith)
+    rows again (Err x) e g = absurd cc
     rows again (Ok n) e g = added again n e (at_row p (edge_added n m)) refl g
 
 -- the body, as the sheet has it
@@ -127,17 +127,17 @@ module _ (bs : List ℕ) (m : Model) (b : Bytes bs) where
       subst (λ x. BodyGot bs x) (sym is) (record { body_is = body; given = good })
 
   edge_count : (k : ℕ) (m₁ : Model) → drop 5 bs ≡ two k ++ drop 7 bs → NodesGot k 7 bs empty m₁ → (q : Result ℕ SheetRefusal) → count_at (7 + 6 * k) (drop (7 + 6 * k) bs) ≡ q → next q (λ j. edges_read j (7 + 6 * k + 2) bs m₁) ≡ Ok m → BodyGot bs m
-  edge_count k m₁ first nodes (Err x) e g = let z : ◌≡◌ {A = ℕ} 0 1 = cc in absurd (omega arith)
+  edge_count k m₁ first nodes (Err x) e g = absurd cc
   edge_count k m₁ first nodes (Ok j) e g =
       let second = count_same (7 + 6 * k) (drop (7 + 6 * k) bs) j (All-drop (λ x. x < 256) (7 + 6 * k) bs b) e in
       edge_rows_lem k m₁ j first nodes (second ∙ ap (λ xs. two j ++ xs) (drop-drop 2 (7 + 6 * k) bs)) g
 
   node_rows : (k : ℕ) → drop 5 bs ≡ two k ++ drop 7 bs → (q : Result Model SheetRefusal) → nodes_read k 7 bs empty ≡ q → next q (edge_part (7 + 6 * k) bs) ≡ Ok m → BodyGot bs m
-  node_rows k first (Err x) e g = let z : ◌≡◌ {A = ℕ} 0 1 = cc in absurd (omega arith)
+  node_rows k first (Err x) e g = absurd cc
   node_rows k first (Ok m₁) e g = edge_count k m₁ first (nodes_got k 7 bs empty m₁ b refl (omega arith) e) (count_at (7 + 6 * k) (drop (7 + 6 * k) bs)) refl g
 
   node_count : (q : Result ℕ SheetRefusal) → count_at 5 (drop 5 bs) ≡ q → next q (λ k. next (nodes_read k 7 bs empty) (edge_part (7 + 6 * k) bs)) ≡ Ok m → BodyGot bs m
-  node_count (Err x) e g = let z : ◌≡◌ {A = ℕ} 0 1 = cc in absurd (omega arith)
+  node_count (Err x) e g = absurd cc
   node_count (Ok k) e g =
       let first = count_same 5 (drop 5 bs) k (All-drop (λ x. x < 256) 5 bs b) e in
       node_rows k (first ∙ ap (λ xs. two k ++ xs) (drop-drop 2 5 bs)) (nodes_read k 7 bs empty) refl g
@@ -153,8 +153,8 @@ module _ (x y a c d : ℕ) (body : List ℕ) (m : Model) where
   versioned = cond (eqb x 1) sized (Err Version)
 
   five : Bytes all → versioned ≡ Ok m → (eqb x 1 ≡ true) ⊎ (eqb x 1 ≡ false) → (eqb (long all 1) (length body) ≡ true) ⊎ (eqb (long all 1) (length body) ≡ false) → (all ≡ sheet_of m) × Given m
-  five b k (inr v) l = let e = cond-false (eqb x 1) sized (Err Version) v in let z : ◌≡◌ {A = ℕ} 0 1 = cc in absurd (omega arith)
-  five b k (inl v) (inr l) = let e = cond-true (eqb x 1) sized (Err Version) v in let f = cond-false (eqb (long all 1) (length body)) (body_read all) (Err Length) l in let z : ◌≡◌ {A = ℕ} 0 1 = cc in absurd (omega arith)
+  five b k (inr v) l = let e = cond-false (eqb x 1) sized (Err Version) v in absurd cc
+  five b k (inl v) (inr l) = let e = cond-true (eqb x 1) sized (Err Version) v in let f = cond-false (eqb (long all 1) (length body)) (body_read all) (Err Length) l in absurd cc
   five b k (inl v) (inl l) =
       let e = cond-true (eqb x 1) sized (Err Version) v in
       let f = cond-true (eqb (long all 1) (length body)) (body_read all) (Err Length) l in
@@ -167,11 +167,11 @@ module _ (x y a c d : ℕ) (body : List ℕ) (m : Model) where
       (whole ∙ ap (λ u. 1 ∷ (four (length u) ++ u)) inner.body_is, inner.given)
 
 pub same_bytes : SameBytes
-same_bytes [] m b h = let z : ◌≡◌ {A = ℕ} 0 1 = cc in absurd (omega arith)
-same_bytes (x ∷ []) m b h = let z : ◌≡◌ {A = ℕ} 0 1 = cc in absurd (omega arith)
-same_bytes (x ∷ y ∷ []) m b h = let z : ◌≡◌ {A = ℕ} 0 1 = cc in absurd (omega arith)
-same_bytes (x ∷ y ∷ a ∷ []) m b h = let z : ◌≡◌ {A = ℕ} 0 1 = cc in absurd (omega arith)
-same_bytes (x ∷ y ∷ a ∷ c ∷ []) m b h = let z : ◌≡◌ {A = ℕ} 0 1 = cc in absurd (omega arith)
+same_bytes [] m b h = absurd cc
+same_bytes (x ∷ []) m b h = absurd cc
+same_bytes (x ∷ y ∷ []) m b h = absurd cc
+same_bytes (x ∷ y ∷ a ∷ []) m b h = absurd cc
+same_bytes (x ∷ y ∷ a ∷ c ∷ []) m b h = absurd cc
 same_bytes (x ∷ y ∷ a ∷ c ∷ d ∷ body) m b h =
     let bs = x ∷ y ∷ a ∷ c ∷ d ∷ body in
     let tested = versioned x y a c d body m in

@@ -1,4 +1,5 @@
 pub mod Bytes
 pub mod Rows
+pub mod Readers
 pub mod Reading
 pub mod Encoding

@@ -1,12 +1,12 @@
 // Reading the counts and rows of a sheet one after another.
-ghost use Rattle.std.specs.Prelude.{◌≡◌, ◌+◌, ◌≤◌, length, drop, OnOk};
+ghost use Rattle.std.specs.Prelude.{◌≡◌, ◌≤◌, length, drop, OnOk};
 ghost use Rattle.sheet.specs.Rows.{chunk, count_at, node_row, edge_row};
 
 use records::edge::Edge;
 use records::node::{NodeKind, NodeState};
 use records::sheet_refusal::SheetRefusal;
 
-// A node as its row gives it.
+// A node as its row gives it. It is not a `Node`, since a row has no place.
 #[derive(Clone, Copy)]
 pub struct SheetNode {
     pub state: NodeState,
@@ -23,11 +23,12 @@ pub(crate) struct Reader<'a> {
 }
 
 impl Reader<'_> {
+    ghost use Rattle.sheet.specs.Readers.{Advances};
+
     // The next bytes, as many as the array has.
     fn take<const N: usize>(&mut self) -> Result<[u8; N], SheetRefusal>
         ensures value { result ≡ chunk N self.old.at (drop self.old.at self.old.bytes.now) }
-        ensures at { OnOk result (self.new.at ≡ self.old.at + N) }
-        ensures bytes { self.new.bytes ≡ self.old.bytes }
+        ensures after { OnOk result (Advances N self.old self.new) }
     {
         let next = self.bytes[self.at..]
             .first_chunk::<N>()
@@ -38,16 +39,14 @@ impl Reader<'_> {
 
     pub(crate) fn count(&mut self) -> Result<u16, SheetRefusal>
         ensures value { result ≡ count_at self.old.at (drop self.old.at self.old.bytes.now) }
-        ensures at { OnOk result (self.new.at ≡ self.old.at + 2) }
-        ensures bytes { self.new.bytes ≡ self.old.bytes }
+        ensures after { OnOk result (Advances 2 self.old self.new) }
     {
         Ok(u16::from_be_bytes(self.take()?))
     }
 
     pub(crate) fn node_row(&mut self) -> Result<SheetNode, SheetRefusal>
         ensures value { result ≡ node_row self.old.at (drop self.old.at self.old.bytes.now) }
-        ensures at { OnOk result (self.new.at ≡ self.old.at + 6) }
-        ensures bytes { self.new.bytes ≡ self.old.bytes }
+        ensures after { OnOk result (Advances 6 self.old self.new) }
     {
         let at = self.at;
         let [state, kind, a, b, c, d] = self.take::<6>()?;
@@ -60,8 +59,7 @@ impl Reader<'_> {
 
     pub(crate) fn edge_row(&mut self) -> Result<Edge, SheetRefusal>
         ensures value { result ≡ edge_row self.old.at (drop self.old.at self.old.bytes.now) }
-        ensures at { OnOk result (self.new.at ≡ self.old.at + 4) }
-        ensures bytes { self.new.bytes ≡ self.old.bytes }
+        ensures after { OnOk result (Advances 4 self.old self.new) }
     {
         let [a, b, c, d] = self.take::<4>()?;
         Ok(Edge {

@@ -3,6 +3,7 @@ ghost use Rattle.std.specs.Prelude.{◌≡◌, ◌+◌, ◌*◌, ◌≤◌, leng
 ghost use Rattle.graph.specs.Model.{Model, model, empty};
 ghost use Rattle.sheet.specs.Reading.{followed, nodes_read, edges_read, body_read, sheet_read, answered, left};
 ghost use Rattle.sheet.specs.Encoding.{sheet_of, Given};
+ghost use Rattle.sheet.specs.Readers.{Advances};
 
 use crate::reader::Reader;
 use graph::raw::RawInstGraph;
@@ -13,7 +14,8 @@ const VERSION: u8 = 1;
 // How many bytes stand before the body: the version and the body's length.
 const HEAD: usize = 5;
 
-// Replaces the graph by the one that a sheet gives, or by an empty one where the sheet is refused.
+// Replaces the graph by the one that a sheet gives, or by an empty one where the sheet is refused. The rows are added in
+// place, since a graph is too large to hand on by value.
 pub fn read_sheet(graph: &mut RawInstGraph, bytes: &[u8]) -> Result<(), SheetRefusal>
     ensures answer { result ≡ answered (sheet_read bytes.now) }
     ensures after { model graph.new ≡ left (sheet_read bytes.now) }
@@ -56,7 +58,7 @@ fn take_body(graph: &mut RawInstGraph, bytes: &[u8]) -> Result<(), SheetRefusal>
     take_edges(graph, &mut reader, edges)
 }
 
-// The node rows, which follow their count.
+// The node rows, which follow their count. A trait for both kinds of rows would be longer than the two loops.
 #[tactic(auto, using(crate::proofs::RowSteps::nodes_more))]
 fn take_nodes(
     graph: &mut RawInstGraph,
@@ -64,8 +66,7 @@ fn take_nodes(
     count: u16,
 ) -> Result<(), SheetRefusal>
     ensures value { followed result (model graph.new) ≡ nodes_read count reader.old.at reader.old.bytes.now (model graph.old) }
-    ensures at { OnOk result (reader.new.at ≡ reader.old.at + 6 * count) }
-    ensures bytes { reader.new.bytes ≡ reader.old.bytes }
+    ensures after { OnOk result (Advances (6 * count) reader.old reader.new) }
 {
     for _row in 0..count {
         let at = reader.at;

@@ -3,9 +3,10 @@ use Rattle.std.specs.Prelude.{ℕ, List, length, count_by, nat_eq}
 use Rattle.records.specs.declared.node.Node.{Node}
 use Rattle.records.specs.declared.node.NodeKind.{NodeKind}
 use Rattle.records.specs.declared.node.NodeKind.TheVariants.{Instantiation, ENode, GivenEquality, TransEquality, Proof, Cdcl}
-use Rattle.records.specs.declared.node.NodeState.TheVariants.{Disabled, Hidden, Visible}
+use Rattle.records.specs.declared.node.NodeState.TheVariants.{Visible}
 use Rattle.records.specs.Nodes.{kind_number}
 use Rattle.graph.specs.Model.{Model}
+use Rattle.graph.specs.Adding.{stats_of}
 use Rattle.graph.specs.Tallies.{tally}
 use Rattle.sheet_report.specs.declared.summary.Summary.{Summary}
 
@@ -18,9 +19,7 @@ summary_of m =
       nodes = length m.nodes;
       edges = length m.edges;
       shown = tally Visible m.nodes;
-      hidden = tally Hidden m.nodes;
-      disabled = tally Disabled m.nodes;
-      generation = m.generation;
+      stats = stats_of m;
       instantiations = of_kind Instantiation m.nodes;
       enodes = of_kind ENode m.nodes;
       given_equalities = of_kind GivenEquality m.nodes;

@@ -18,9 +18,9 @@ states s =
     (codes "nodes", s.nodes)
     ∷ (codes "edges", s.edges)
     ∷ (codes "shown", s.shown)
-    ∷ (codes "hidden", s.hidden)
-    ∷ (codes "disabled", s.disabled)
-    ∷ (codes "generation", s.generation)
+    ∷ (codes "hidden", s.stats.hidden)
+    ∷ (codes "disabled", s.stats.disabled)
+    ∷ (codes "generation", s.stats.generation)
     ∷ []
 
 abbrev pub kinds : Summary → List (List ℕ × ℕ)

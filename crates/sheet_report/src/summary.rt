@@ -6,6 +6,7 @@ ghost use Rattle.std.specs.Fmt.{WritesOnOk};
 ghost use Rattle.sheet_report.specs.Texts.{line, lines, states, kinds, summary_text};
 
 use graph::raw::RawInstGraph;
+use graph::stats::GraphStats;
 use records::node::{Node, NodeKind};
 use std::fmt;
 
@@ -14,10 +15,8 @@ pub struct Summary {
     pub nodes: usize,
     pub edges: usize,
     pub shown: usize,
-    pub hidden: u32,
-    pub disabled: u32,
-    pub generation: u32,
-    // How many nodes there are of each kind.
+    pub stats: GraphStats,
+    // How many nodes there are of each kind. A field for each: a table by the kinds' numbers would not say which is which.
     pub instantiations: usize,
     pub enodes: usize,
     pub given_equalities: usize,
@@ -43,9 +42,7 @@ impl Summary {
             nodes: nodes.len(),
             edges: graph.edges().len(),
             shown: graph.visible_nodes(),
-            hidden: stats.hidden,
-            disabled: stats.disabled,
-            generation: stats.generation,
+            stats,
             instantiations: count_kind(nodes, NodeKind::Instantiation),
             enodes: count_kind(nodes, NodeKind::ENode),
             given_equalities: count_kind(nodes, NodeKind::GivenEquality),
@@ -79,9 +76,9 @@ impl Summary {
             Fact("nodes", self.nodes),
             Fact("edges", self.edges),
             Fact("shown", self.shown),
-            Fact("hidden", self.hidden as usize),
-            Fact("disabled", self.disabled as usize),
-            Fact("generation", self.generation as usize),
+            Fact("hidden", self.stats.hidden as usize),
+            Fact("disabled", self.stats.disabled as usize),
+            Fact("generation", self.stats.generation as usize),
         )
     }
 
@@ -102,6 +99,7 @@ impl Summary {
     }
 }
 
+// In two halves: one write of all twelve facts is more than the prover takes at once.
 impl fmt::Display for Summary {
     ghost output = { λ summary. Some (summary_text summary) };
 

@@ -8,7 +8,7 @@ use Rattle.records.specs.declared.refusal.Refusal.{Refusal}
 use Rattle.records.specs.Walks.{Acyclic, Among, Touched, Joins}
 use Rattle.graph.specs.declared.raw.RawInstGraph.{RawInstGraph}
 use Rattle.graph.specs.Model.{model, unless_refused}
-use Rattle.graph.specs.Order.{Within, Complete, Once, Topological}
+use Rattle.graph.specs.Order.{OrdersNodes}
 use Rattle.graph.proofs.Sound.{sound}
 use Rattle.graph.proofs.Standings.{among_reverse, among_reversed}
 use Rattle.walks.specs.Cycles.{acyclic_answer}
@@ -23,7 +23,7 @@ use Rattle.subgraph.proofs.InTurn.{in_order_lem, somewhere_in, in_somewhere}
 use Rattle.subgraph.proofs.Partitions.{Parts}
 use Rattle.subgraph.proofs.Standing.{standing}
 use Rattle.subgraph.proofs.Told.{front_places}
-use Rattle.subgraph.proofs.Wholes.{whole_within, whole_complete, whole_once, whole_topological, whole_length}
+use Rattle.subgraph.proofs.Wholes.{whole_orders}
 
 -- an answer is known by its parts
 same : (c c' k k' : ℕ) (o o' : List ℕ) (p p' : List (Option Place)) → c ≡ c' → k ≡ k' → o ≡ o' → p ≡ p' → ◌≡◌ {A = Result Whole Refusal} (Ok (record { count = c; in_subgraphs = k; order = o; places = p })) (Ok (record { count = c'; in_subgraphs = k'; order = o'; places = p' }))
@@ -54,7 +54,7 @@ module _ (g : RawInstGraph) (os : List (List ℕ)) (parts : Parts (Joins (model 
 
   pub whole_room : length (in_order s) + length (singletons (model g).edges (length (model g).nodes)) ≤ 1024
   whole_room =
-      let long = whole_length es n flat (sound g).ends ordered only all in
+      let long = (whole_orders es n flat (sound g).ends ordered only all).long in
       let two = length-append (reverse flat) (singletons es n) in
       let front = ap length turned in
       let few = (sound g).few_nodes in
@@ -74,15 +74,12 @@ module _ (g : RawInstGraph) (os : List (List ℕ)) (parts : Parts (Joins (model 
           record {
             acyclic = acyclic;
             stand = subst (Placed (Joins es)) (sym places_are) (standing es n (edges_inside g) (sound g).few_nodes os parts);
-            long = sym (ap length is) ∙ whole_length es n flat (sound g).ends ordered only all;
-            within = subst (Within n) is (whole_within es n flat (sound g).ends ordered only all);
-            complete = subst (Complete n) is (whole_complete es n flat (sound g).ends ordered only all);
-            once = subst Once is (whole_once es n flat (sound g).ends ordered only all);
-            topological = subst (Topological es) is (whole_topological es n flat (sound g).ends ordered only all);
+            order = subst (OrdersNodes n es) is (whole_orders es n flat (sound g).ends ordered only all);
             touched = λ x. (
               λ a. only x (among_reversed x flat (subst (Among x) front a)),
               λ h. subst (Among x) (sym front) (among_reverse x flat (all x h)),
             );
+            ordered = subst (Ordered (Joins es)) (sym (ap reverse front ∙ reverse-reverse flat)) ordered;
           }
 
       pub whole_answer : (room : ℕ) → Ok tt ≡ acyclic_answer (model g) room → os ≡ orders_of (model g).edges (length (model g).nodes) → t.count ≡ length os → told_whole (length (model g).nodes) (Ok t) ≡ whole_partition (model g) room

@@ -20,7 +20,8 @@ use Rattle.walks.proofs.Closure.{visited_set, set_visited, Ended, ended, only, k
 use Rattle.walks.proofs.Degrees.{total, total_edges, pending_total}
 use Rattle.subgraph.specs.Sorting.{all_in, is_ready, ready}
 use Rattle.subgraph.specs.Orders.{Ordered, is_empty, starts, found_from, sorted_from, Shut, NoMore}
-use Rattle.subgraph.proofs.Lists.{filter_has, filter_only, below_each}
+use Rattle.graph.proofs.Sound.{below_all}
+use Rattle.subgraph.proofs.Lists.{filter_has, filter_only}
 use Rattle.subgraph.proofs.Sorting.{all_in_each}
 use Rattle.subgraph.proofs.Topological.{State, runs, all_done}
 
@@ -33,7 +34,7 @@ length_starts es ns =
     omega arith
 
 pub below_starts : (es : List Edge) (N : ℕ) (ns : List ℕ) → Below N ns → Below N (starts es ns)
-below_starts es N ns b = below_each N (starts es ns) (λ y a. below_at N ns y b (filter_only (λ n. is_empty (sources es n)) ns y a).0)
+below_starts es N ns b = below_all N (starts es ns) (λ y a. below_at N ns y b (filter_only (λ n. is_empty (sources es n)) ns y a).0)
 
 is_empty_in : (xs : List ℕ) (v : List Bool) → is_empty xs ≡ true → all_in xs v ≡ true
 is_empty_in [] v h = refl

@@ -16,7 +16,8 @@ use Rattle.subgraph.specs.Sorting.{is_ready}
 use Rattle.subgraph.specs.Orders.{is_empty, sorted_from, Shut, NoMore}
 use Rattle.subgraph.specs.Partitions.{root, Partition, joined, begins, turn, parted}
 use Rattle.subgraph.specs.Places.{in_turn}
-use Rattle.subgraph.proofs.Lists.{below_each}
+use Rattle.graph.proofs.Sound.{below_all}
+use Rattle.subgraph.proofs.Lists.{some_in, in_some}
 use Rattle.subgraph.proofs.Sorting.{all_in_each}
 use Rattle.subgraph.proofs.Topological.{all_done}
 use Rattle.subgraph.proofs.Components.{Topological, tied, unfound, found_past, connected_small, found_all, marked_only, shut_again, end, topological, within_again, order_size}
@@ -52,13 +53,9 @@ passed es v n no' r =
     (λ (new : get_or v n false ≡ false). absurd (both_ways _ no' (and_from (root es n) (not (get_or v n false)) r (ap not new))))
     (cases_Bool (get_or v n false))
 
-some : (xs : List ℕ) → is_empty xs ≡ false → (y : ℕ) × Among y xs
-some [] h = absurd (both_ways true h refl)
-some (x ∷ xs) h = (x, inl refl)
-
 root_touched : (es : List Edge) (n : ℕ) → root es n ≡ true → Touched (Joins es) n
 root_touched es n h =
-    let t = some (targets es n) (not-true _ (and_parts (is_empty (sources es n)) _ h).1) in
+    let t = in_some (targets es n) (not-true _ (and_parts (is_empty (sources es n)) _ h).1) in
     (t.0, inl (seen_joins Outgoing es n t.0 t.1))
 
 -- what is connected with a touched node is touched
@@ -146,7 +143,7 @@ module _ (es : List Edge) (N : ℕ) (inside : (x y : ℕ) → Joins es x y → (
       (cases_Bool (begins es q.found n))
 
   pub order_below : (n : ℕ) (p : Partition) (m : ℕ) → N ≤ m → n < N → get_or p.found n false ≡ false → Tables p → Below m (sorted_from es N p.found p.appended n).order
-  order_below n p m most low new t = below_each m _ (λ x a.
+  order_below n p m most low new t = below_all m _ (λ x a.
       let c = ((end es N inside n low p.found t.long t.shut new p.appended t.room t.within).marked x a).1 in
       let lt : x < N = connected_small es N inside n low p.found t.long t.shut new x c in
       omega arith)
@@ -191,23 +188,15 @@ module _ (es : List Edge) (N : ℕ) (inside : (x y : ℕ) → Joins es x y → (
         small x (y, inl j) = (inside x y j).0
         small x (y, inr j) = (inside y x j).1
 
-        out : (m : ℕ) → (sources es m ≡ sources es m) → is_empty (sources es m) ≡ true → Touched (Joins es) m → root es m ≡ true
-        out m _ none (y, inl j) = and_from (is_empty (sources es m)) (not (is_empty (targets es m))) none (ap not (filled (targets es m) y (joins_seen Outgoing es m y j)))
-          where
-            filled : (xs : List ℕ) (y : ℕ) → Among y xs → is_empty xs ≡ false
-            filled [] y a = absurd a
-            filled (x ∷ xs) y a = refl
-        out m _ none (y, inr j) = absurd (empty (sources es m) y none (joins_seen Incoming es m y j))
-          where
-            empty : (xs : List ℕ) (y : ℕ) → is_empty xs ≡ true → Among y xs → ⊥
-            empty [] y h a = a
-            empty (x ∷ xs) y h a = both_ways false refl h
+        out : (m : ℕ) → is_empty (sources es m) ≡ true → Touched (Joins es) m → root es m ≡ true
+        out m none (y, inl j) = and_from (is_empty (sources es m)) (not (is_empty (targets es m))) none (ap not (some_in y (targets es m) (joins_seen Outgoing es m y j)))
+        out m none (y, inr j) = absurd (both_ways _ (some_in y (sources es m) (joins_seen Incoming es m y j)) none)
 
         done : (m : ℕ) → Touched (Joins es) m → is_ready es v m ≡ true → get_or v m false ≡ true
         done m t h =
             ⊎_elim
-            (λ (none : is_empty (sources es m) ≡ true). roots m (small m t) (out m refl none t))
-            (λ (has : is_empty (sources es m) ≡ false). let s = some (sources es m) has in sym (shut s.0 m (seen_joins Incoming es m s.0 s.1)) ∙ all_in_each (sources es m) v s.0 h s.1)
+            (λ (none : is_empty (sources es m) ≡ true). roots m (small m t) (out m none t))
+            (λ (has : is_empty (sources es m) ≡ false). let s = in_some (sources es m) has in sym (shut s.0 m (seen_joins Incoming es m s.0 s.1)) ∙ all_in_each (sources es m) v s.0 h s.1)
             (cases_Bool (is_empty (sources es m)))
 
     pub parts : (v w : List Bool) → N ≤ length v → N ≤ length w → Blank N v → Blank N w → Parts (Joins es) (parted es N N (record { found = v; appended = w; orders = [] })).orders

@@ -1,13 +1,13 @@
 -- Lists of which each node is marked.
-use Rattle.std.proofs.Common.{◌≡◌, ℕ, Bool, true, false, ◌&&◌, List, [], ◌∷◌, get_or, sym, refl, ap, ◌∙◌, inl, inr, ⊎_elim}
-use Rattle.std.proofs.lemmas.Bool.{cases_Bool, both_ways, and_parts, and_from}
+use Rattle.std.proofs.Common.{◌≡◌, ℕ, Bool, true, false, ◌&&◌, List, [], ◌∷◌, get_or, sym, refl, ap, ◌∙◌, inl, inr, ⊎_elim, arith}
+use Rattle.std.proofs.lemmas.Bool.{cases_Bool, both_ways, and_from}
+use Rattle.std.proofs.lemmas.Grind.{common_steps}
 use Rattle.records.specs.Walks.{Among}
 use Rattle.subgraph.specs.Sorting.{all_in}
 
 pub all_in_each : (xs : List ℕ) (v : List Bool) (y : ℕ) → all_in xs v ≡ true → Among y xs → get_or v y false ≡ true
 all_in_each [] v y h a = absurd a
-all_in_each (x ∷ xs) v y h (inl is) = ap (λ i. get_or v i false) is ∙ (and_parts _ _ h).0
-all_in_each (x ∷ xs) v y h (inr a) = all_in_each xs v y (and_parts (get_or v x false) _ h).1 a
+all_in_each (x ∷ xs) v y h a = grind (arith, common_steps, all_in_each xs v y)
 
 pub all_in_from : (xs : List ℕ) (v : List Bool) → ((y : ℕ) → Among y xs → get_or v y false ≡ true) → all_in xs v ≡ true
 all_in_from [] v h = refl

@@ -3,15 +3,16 @@ use Rattle.std.proofs.Common.{◌≡◌, ℕ, zero, suc, ◌+◌, ◌-◌, ◌<�
 use Rattle.std.proofs.lemmas.List.{reverse-append, append-nil, length-append}
 use Rattle.std.proofs.lemmas.List.Elements.{filter-append}
 use Rattle.std.proofs.lemmas.Bool.{cases_eq, cases_Bool, cond-true, cond-false}
+use Rattle.std.proofs.lemmas.Grind.{common_steps}
 use Rattle.std.specs.List.{range_with_len}
 use Rattle.records.specs.declared.edge.Edge.{Edge}
 use Rattle.records.specs.declared.edge.Direction.TheVariants.{Outgoing, Incoming}
 use Rattle.records.specs.Edges.{no_edge}
 use Rattle.records.specs.Walks.{Among, Touched, Joins}
-use Rattle.graph.specs.Order.{stands_at, Ends, Within, Complete, Once, Topological}
+use Rattle.graph.specs.Order.{stands_at, Ends, Within, Complete, Once, Topological, OrdersNodes}
 use Rattle.subgraph.specs.Orders.{Ordered, is_empty}
 use Rattle.subgraph.specs.Wholes.{alone, singletons, whole_order}
-use Rattle.subgraph.proofs.Lists.{filter_has, filter_only}
+use Rattle.subgraph.proofs.Lists.{filter_has, filter_only, some_in, in_some}
 use Rattle.graph.proofs.Seen.{seen_joins, joins_seen}
 use Rattle.walks.specs.Exploring.{targets, sources}
 use Rattle.graph.proofs.Standings.{stands_here, stands_inside, stands_left, stands_right, among_left, among_right, among_either, among_reverse, among_reversed, get_or_among, once_append, once_one, once_cons, order_length}
@@ -20,7 +21,7 @@ turned : (n : ℕ) (before : List ℕ) → reverse (n ∷ before) ≡ reverse be
 turned n before = reverse-append (n ∷ []) before
 
 module _ (R : ℕ → ℕ → Type 0) where
-  pub ordered_once : (flat : List ℕ) → Ordered R flat → Once (reverse flat)
+  ordered_once : (flat : List ℕ) → Ordered R flat → Once (reverse flat)
   ordered_once [] o = λ i h. absurd (omega arith)
   ordered_once (n ∷ before) o =
       subst Once (sym (turned n before))
@@ -36,7 +37,7 @@ module _ (R : ℕ → ℕ → Type 0) where
   ordered_source (n ∷ before) o a b r (inr k) = inr (ordered_source before o.2 a b r k)
 
   -- a step's source stands before its target
-  pub ordered_before : (flat : List ℕ) → Ordered R flat → (a b : ℕ) → R a b → Among b flat → stands_at (reverse flat) a < stands_at (reverse flat) b
+  ordered_before : (flat : List ℕ) → Ordered R flat → (a b : ℕ) → R a b → Among b flat → stands_at (reverse flat) a < stands_at (reverse flat) b
   ordered_before [] o a b r m = absurd m
   ordered_before (n ∷ before) o a b r m =
       let P : List ℕ → Type 0 = λ l. stands_at l a < stands_at l b in
@@ -64,12 +65,11 @@ module _ (R : ℕ → ℕ → Type 0) where
 -- ---- a row of numbers
 in_range : (a n k : ℕ) → Among k (range_with_len a n) → (a ≤ k) × (k < a + n)
 in_range a zero k m = absurd m
-in_range a (suc n) k (inl is) = (omega arith, omega arith)
-in_range a (suc n) k (inr m) = let r = in_range (a + 1) n k m in let low = r.0 in let high = r.1 in (omega arith, omega arith)
+in_range a (suc n) k m = grind (arith, common_steps, in_range (a + 1) n k)
 
 range_in : (a n k : ℕ) → a ≤ k → k < a + n → Among k (range_with_len a n)
 range_in a zero k h l = absurd (omega arith)
-range_in a (suc n) k h l = ⊎_elim (λ (is : k ≡ a). inl is) (λ (ne : k ≡ a → ⊥). inr (range_in (a + 1) n k (omega arith) (omega arith))) (cases_eq k a)
+range_in a (suc n) k h l = grind (arith, common_steps, range_in (a + 1) n k)
 
 range_split : (a n d : ℕ) → range_with_len a (n + d) ≡ range_with_len a n ++ range_with_len (a + n) d
 range_split a zero d =
@@ -103,7 +103,7 @@ module _ (p : ℕ → Bool) where
       let some = ap length (passing_taken k e) ∙ length-append (filter p (range_with_len 0 k)) (k ∷ []) in
       omega arith
 
-  pub passing_once : (a n : ℕ) → Once (filter p (range_with_len a n))
+  passing_once : (a n : ℕ) → Once (filter p (range_with_len a n))
   passing_once a zero = λ i h. absurd (omega arith)
   passing_once a (suc n) =
       let rest = filter p (range_with_len (a + 1) n) in
@@ -112,25 +112,12 @@ module _ (p : ℕ → Bool) where
       (λ (e : p a ≡ false). subst Once (sym (cond-false (p a) (a ∷ rest) rest e)) (passing_once (a + 1) n))
       (cases_Bool (p a))
 
--- a list that has an element is not empty, and one that is not empty has one
-some_in : (x : ℕ) (xs : List ℕ) → Among x xs → is_empty xs ≡ false
-some_in x [] m = absurd m
-some_in x (y ∷ ys) m = refl
-
-in_some : (xs : List ℕ) → is_empty xs ≡ false → (x : ℕ) × Among x xs
-in_some [] e = let z : ◌≡◌ {A = ℕ} 0 1 = cc in absurd (omega arith)
-in_some (x ∷ xs) e = (x, inl refl)
-
 module _ (es : List Edge) where
-  pub touched_not_alone : (n : ℕ) → Touched (Joins es) n → alone es n ≡ false
-  touched_not_alone n (y, inl j) = ap (λ b. b && is_empty (sources es n)) (some_in y (targets es n) (joins_seen Outgoing es n y j))
-  touched_not_alone n (y, inr j) = last (is_empty (targets es n)) (is_empty (sources es n)) (some_in y (sources es n) (joins_seen Incoming es n y j))
-    where
-      last : (a b : Bool) → b ≡ false → (a && b) ≡ false
-      last true b q = q
-      last false b q = refl
+  touched_not_alone : (n : ℕ) → Touched (Joins es) n → alone es n ≡ false
+  touched_not_alone n (y, inl j) = let has = some_in y (targets es n) (joins_seen Outgoing es n y j) in grind (arith, common_steps)
+  touched_not_alone n (y, inr j) = let has = some_in y (sources es n) (joins_seen Incoming es n y j) in grind (arith, common_steps)
 
-  pub not_alone_touched : (n : ℕ) → alone es n ≡ false → Touched (Joins es) n
+  not_alone_touched : (n : ℕ) → alone es n ≡ false → Touched (Joins es) n
   not_alone_touched n h =
       ⊎_elim
       (λ (t : is_empty (targets es n) ≡ true).
@@ -150,7 +137,7 @@ module _ (es : List Edge) where
     apart k l r =
         let no = touched_not_alone k (only k (among_reversed k flat l)) in
         let yes' = (filter_only (alone es) (range_with_len 0 n) k r).1 in
-        let z : ◌≡◌ {A = ℕ} 0 1 = cc in omega arith
+        cc
 
     among_below : (k : ℕ) → Among k (whole_order es n flat) → k < n
     among_below k m =
@@ -159,10 +146,10 @@ module _ (es : List Edge) where
         (λ (r : Among k (singletons es n)). let b = (in_range 0 n k (filter_only (alone es) (range_with_len 0 n) k r).0).1 in omega arith)
         (among_either k (reverse flat) (singletons es n) m)
 
-    pub whole_within : Within n (whole_order es n flat)
+    whole_within : Within n (whole_order es n flat)
     whole_within i h = among_below (get_or (whole_order es n flat) i 0) (get_or_among (whole_order es n flat) i 0 h)
 
-    pub whole_complete : Complete n (whole_order es n flat)
+    whole_complete : Complete n (whole_order es n flat)
     whole_complete k h =
         stands_inside (whole_order es n flat) k
         (⊎_elim
@@ -170,10 +157,10 @@ module _ (es : List Edge) where
         (λ (t : alone es k ≡ false). among_left k (reverse flat) (singletons es n) (among_reverse k flat (all k (not_alone_touched k t))))
         (cases_Bool (alone es k)))
 
-    pub whole_once : Once (whole_order es n flat)
+    whole_once : Once (whole_order es n flat)
     whole_once = once_append (reverse flat) (singletons es n) (ordered_once (Joins es) flat ordered) (passing_once (alone es) 0 n) apart
 
-    pub whole_topological : Topological es (whole_order es n flat)
+    whole_topological : Topological es (whole_order es n flat)
     whole_topological e h =
         let a = (get_or es e no_edge).source in
         let b = (get_or es e no_edge).target in
@@ -185,5 +172,11 @@ module _ (es : List Edge) where
         let before = ordered_before (Joins es) flat ordered a b j target in
         omega arith
 
-    pub whole_length : length (whole_order es n flat) ≡ n
-    whole_length = order_length n (whole_order es n flat) whole_within whole_complete whole_once
+    pub whole_orders : OrdersNodes n es (whole_order es n flat)
+    whole_orders = record {
+      long = order_length n (whole_order es n flat) whole_within whole_complete whole_once;
+      within = whole_within;
+      complete = whole_complete;
+      once = whole_once;
+      topological = whole_topological;
+    }

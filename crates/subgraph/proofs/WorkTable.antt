@@ -8,7 +8,6 @@ use Rattle.tables.specs.Filled.{filled, Blank}
 use Rattle.tables.proofs.Filling.{length_filled, filled_below}
 use Rattle.graph.specs.declared.raw.RawInstGraph.{RawInstGraph}
 use Rattle.graph.specs.Model.{model}
-use Rattle.graph.proofs.Sound.{sound}
 use Rattle.walks.specs.Cycles.{acyclic_answer, left_blank, Tested}
 use Rattle.walks.proofs.Seeing.{edges_inside}
 use Rattle.walks.proofs.Closed.{restored}
@@ -19,11 +18,9 @@ use Rattle.subgraph.specs.Subgraphs.{in_order, in_parts}
 use Rattle.subgraph.specs.Wholes.{singletons}
 use Rattle.subgraph.specs.WholePartitions.{orders_of, told_whole, whole_partition, LawfulWhole}
 use Rattle.subgraph.proofs.Partitions.{Parts, blank_tables, parted_past, parts}
+use Rattle.subgraph.proofs.Partitioning.{appended_room, unappended}
 use Rattle.subgraph.proofs.Twins.{same_orders}
 use Rattle.subgraph.proofs.AllNodes.{whole_room, whole_lawful, whole_answer}
-
-pub unappended : (n : ℕ) → n ≤ 1024 → Blank n (replicate 1024 false)
-unappended n few k h = get_or-replicate 1024 k false false (omega arith)
 
 -- v is what a test that refused nothing leaves of the work table
 module _ (g : RawInstGraph) (work : List Bool) (tested : Tested (model g) (length work) (Ok tt)) (v : List Bool) (left : v ≡ left_blank (length (model g).nodes) work) where
@@ -45,26 +42,20 @@ module _ (g : RawInstGraph) (work : List Bool) (tested : Tested (model g) (lengt
   unfound : Blank N v
   unfound = subst (Blank N) (sym is_blank) (λ k h. filled_below N k false false work h)
 
-  blank : Blank N (replicate 1024 false)
-  blank = unappended N (sound g).few_nodes
-
-  appended_room : N ≤ length (replicate 1024 false)
-  appended_room = let few = (sound g).few_nodes in let size = length-replicate 1024 false in omega arith
-
   same : os ≡ orders_of es N
   same =
       let size = length-replicate N false in
       let none : Blank N (replicate N false) = λ k h. get_or-replicate N k false false h in
-      same_orders es N (edges_inside g) v (replicate 1024 false) (replicate N false) (replicate N false) found_room appended_room (omega arith) (omega arith) unfound blank none none
+      same_orders es N (edges_inside g) v (replicate 1024 false) (replicate N false) (replicate N false) found_room (appended_room g) (omega arith) (omega arith) unfound (unappended g) none none
 
   apart : Parts (Joins es) os
-  apart = parts es N (edges_inside g) (tested.passed.0 refl).1 v (replicate 1024 false) found_room appended_room unfound blank
+  apart = parts es N (edges_inside g) (tested.passed.0 refl).1 v (replicate 1024 false) found_room (appended_room g) unfound (unappended g)
 
-  module _ (f a : List Bool) (s : Subgraphs) (fl : Filled (partition (model g).edges (length (model g).nodes) v (replicate 1024 false)) f a s) where
+  module _ (f : List Bool) (s : Subgraphs) (fl : Filled (partition (model g).edges (length (model g).nodes) v (replicate 1024 false)) f s) where
     pub table : (after : List Bool) → after ≡ filled (length (model g).nodes) false f → after ≡ left_blank (length (model g).nodes) work
     table after end =
         let start : Partition = record { found = v; appended = replicate 1024 false; orders = [] } in
-        let past = parted_past es N (edges_inside g) N start (omega arith) (blank_tables es N (edges_inside g) v (replicate 1024 false) [] found_room appended_room unfound blank) in
+        let past = parted_past es N (edges_inside g) N start (omega arith) (blank_tables es N (edges_inside g) v (replicate 1024 false) [] found_room (appended_room g) unfound (unappended g)) in
         end ∙ ap (filled N false) fl.marks ∙ restored N v (partition es N v (replicate 1024 false)).found found_room unfound past ∙ left
 
     pub room : length (in_order s) + length (singletons (model g).edges (length (model g).nodes)) ≤ 1024

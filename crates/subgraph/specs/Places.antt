@@ -22,9 +22,8 @@ places [] t = t
 places (o ∷ os) t = placed (length os) o (places os t)
 
 -- what a partition leaves in the tables
-pub record Filled (p : Partition) (found appended : List Bool) (s : Subgraphs) : Type 0 where
+pub record Filled (p : Partition) (found : List Bool) (s : Subgraphs) : Type 0 where
   pub marks : found ≡ p.found
-  pub turns : appended ≡ p.appended
   pub count : s.count ≡ length p.orders
   pub order : reverse (in_order s) ≡ in_turn p.orders
   pub places_are : s.places ≡ places p.orders (replicate 1024 None)

@@ -1,13 +1,14 @@
 -- What is answered of a graph's subgraphs and of the order of all its nodes.
-use Rattle.std.specs.Prelude.{◌≡◌, ℕ, false, List, length, take, replicate, None, Ok, Err, Option, Result}
+use Rattle.std.specs.Prelude.{ℕ, false, List, reverse, length, take, replicate, None, Ok, Err, Option, Result}
 use Rattle.records.specs.declared.edge.Edge.{Edge}
 use Rattle.records.specs.declared.node.Place.{Place}
 use Rattle.records.specs.declared.refusal.Refusal.{Refusal}
 use Rattle.records.specs.Walks.{Acyclic, Among, Joins, Touched}
 use Rattle.graph.specs.Model.{Model, unless_refused}
-use Rattle.graph.specs.Order.{Within, Complete, Once, Topological}
+use Rattle.graph.specs.Order.{OrdersNodes}
 use Rattle.walks.specs.Cycles.{acyclic_answer}
 use Rattle.subgraph.specs.declared.places.Subgraphs.{Subgraphs}
+use Rattle.subgraph.specs.Orders.{Ordered}
 use Rattle.subgraph.specs.Partitions.{partition}
 use Rattle.subgraph.specs.Subgraphs.{in_order, in_parts}
 use Rattle.subgraph.specs.Places.{in_turn, places, Placed}
@@ -43,10 +44,8 @@ pub record LawfulWhole (m : Model) (s : Subgraphs) : Type 0 where
   pub acyclic : Acyclic (Joins m.edges)
   pub stand : Placed (Joins m.edges) s.places
   -- each node stands in the order once, and the source of each edge before its target
-  pub long : length (in_order s) ≡ length m.nodes
-  pub within : Within (length m.nodes) (in_order s)
-  pub complete : Complete (length m.nodes) (in_order s)
-  pub once : Once (in_order s)
-  pub topological : Topological m.edges (in_order s)
+  pub order : OrdersNodes (length m.nodes) m.edges (in_order s)
   -- the nodes of the subgraphs, which stand first, are those with an edge
   pub touched : (x : ℕ) → (Among x (take (in_parts s) (in_order s)) → Touched (Joins m.edges) x) × (Touched (Joins m.edges) x → Among x (take (in_parts s) (in_order s)))
+  -- and among them, too, the source of each edge stands before its target
+  pub ordered : Ordered (Joins m.edges) (reverse (take (in_parts s) (in_order s)))

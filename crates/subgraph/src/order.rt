@@ -2,7 +2,7 @@
 ghost use Rattle.std.specs.Prelude.{◌≡◌, ◌<◌, ◌≤◌, false, length, slice_index_or};
 ghost use Rattle.graph.specs.Model.{model};
 ghost use Rattle.records.specs.Edges.{neighbours, history};
-ghost use Rattle.walks.specs.Exploring.{IsTableOf};
+ghost use Rattle.graph.specs.Tables.{IsTableOf};
 ghost use Rattle.subgraph.specs.Orders.{is_empty, starts, found_from, sorted_from, Shut, NoMore};
 
 use crate::sort::Ready;
@@ -23,7 +23,6 @@ pub(crate) fn no_neighbors(graph: &RawInstGraph, node: u16, direction: Direction
 
 // Of the nodes found, those to which no edge leads.
 fn start_nodes(graph: &RawInstGraph, found: &Stack) -> Stack
-    requires { length found.now ≤ 8193 }
     ensures { result ≡ starts (model graph.now).edges found.now }
 {
     let mut chosen = Stack::new();

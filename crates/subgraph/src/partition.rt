@@ -1,9 +1,9 @@
 // The partition of a graph into subgraphs.
-ghost use Rattle.std.specs.Prelude.{◌≡◌, ◌<◌, ◌≤◌, length, IfOk};
+ghost use Rattle.std.specs.Prelude.{◌≡◌, ◌<◌, false, length, replicate, IfOk};
 ghost use Rattle.tables.specs.Filled.{Blank};
 ghost use Rattle.graph.specs.Model.{model};
 ghost use Rattle.walks.specs.Cycles.{left_blank};
-ghost use Rattle.walks.specs.Exploring.{IsTableOf};
+ghost use Rattle.graph.specs.Tables.{IsTableOf};
 ghost use Rattle.subgraph.specs.Partitions.{begins, partition};
 ghost use Rattle.subgraph.specs.Places.{Filled};
 ghost use Rattle.subgraph.specs.WholePartitions.{whole_partition, told_whole, LawfulWhole};
@@ -12,6 +12,7 @@ use crate::order::{no_neighbors, order_from};
 use crate::places::Subgraphs;
 use graph::raw::RawInstGraph;
 use records::edge::Direction;
+use records::limits::MAX_NODES;
 use records::refusal::Refusal;
 use tables::fill::fill;
 use walks::cycle::check_acyclic;
@@ -28,17 +29,16 @@ fn begins_subgraph(graph: &RawInstGraph, node: u16, found: &[bool]) -> bool
 }
 
 // The subgraphs of the roots, ascending.
-fn partition(graph: &RawInstGraph, found: &mut [bool], appended: &mut [bool]) -> Subgraphs
-    requires found_room { IsTableOf (model graph.now) found.old }
-    requires appended_room { IsTableOf (model graph.now) appended.old }
+fn partition(graph: &RawInstGraph, found: &mut [bool]) -> Subgraphs
+    requires table { IsTableOf (model graph.now) found.old }
     requires unfound { Blank (length (model graph.now).nodes) found.old }
-    requires unappended { Blank (length (model graph.now).nodes) appended.old }
-    ensures { Filled (partition (model graph.now).edges (length (model graph.now).nodes) found.old appended.old) found.new appended.new result }
+    ensures { Filled (partition (model graph.now).edges (length (model graph.now).nodes) found.old (replicate MAX_NODES false)) found.new result }
 {
+    let mut appended = [false; MAX_NODES];
     let mut subgraphs = Subgraphs::new();
-    for node in 0..graph.nodes().len() {
-        if begins_subgraph(graph, node as u16, found) {
-            let order = order_from(graph, node as u16, found, appended);
+    for node in 0..graph.nodes().len() as u16 {
+        if begins_subgraph(graph, node, found) {
+            let order = order_from(graph, node, found, &mut appended);
             subgraphs.add(&order);
         }
     }
@@ -52,8 +52,7 @@ pub fn subgraphs(graph: &RawInstGraph, work: &mut [bool]) -> Result<Subgraphs, R
     ensures law { IfOk result (LawfulWhole (model graph.now)) }
 {
     check_acyclic(graph, work)?;
-    let mut appended = [false; 1024];
-    let mut parts = partition(graph, work, &mut appended);
+    let mut parts = partition(graph, work);
     fill(work, graph.nodes().len(), false);
     parts.add_singletons(graph);
     Ok(parts)

@@ -7,6 +7,7 @@ use crate::order::no_neighbors;
 use arrayvec::ArrayVec;
 use graph::raw::RawInstGraph;
 use records::edge::Direction;
+use records::limits::MAX_NODES;
 use records::node::Place;
 use tables::stack::Stack;
 
@@ -15,9 +16,11 @@ use tables::stack::Stack;
 #[derive(Drop)]
 pub struct Subgraphs {
     pub count: usize,
-    pub places: [Option<Place>; 1024],
+    // A fixed table by the nodes' numbers, since there is no heap.
+    pub places: [Option<Place>; MAX_NODES],
     in_subgraphs: usize,
-    order: ArrayVec<u16, 1024>,
+    order: ArrayVec<u16, MAX_NODES>,
+    ghost order_fits: { length order.items ≤ 1024 },
     ghost count_fits: { count ≤ 1024 },
     ghost parts_first: { in_subgraphs ≤ length order.items },
 }
@@ -37,7 +40,7 @@ impl Subgraphs {
     {
         Subgraphs {
             count: 0,
-            places: [None; 1024],
+            places: [None; MAX_NODES],
             in_subgraphs: 0,
             order: ArrayVec::new(),
         }
@@ -71,9 +74,9 @@ impl Subgraphs {
         ensures places { self.new.places ≡ self.old.places }
     {
         self.in_subgraphs = self.order.len();
-        for node in 0..graph.nodes().len() {
-            if is_singleton(graph, node as u16) {
-                self.order.push(node as u16);
+        for node in 0..graph.nodes().len() as u16 {
+            if is_singleton(graph, node) {
+                self.order.push(node);
             }
         }
     }

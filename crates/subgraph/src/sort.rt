@@ -2,7 +2,8 @@
 ghost use Rattle.std.specs.Prelude.{◌≡◌, ℕ, ◌+◌, ◌≤◌, Bool, List, length};
 ghost use Rattle.records.specs.declared.edge.Edge.{Edge};
 ghost use Rattle.graph.specs.Model.{model};
-ghost use Rattle.walks.specs.Exploring.{IsTableOf, targets};
+ghost use Rattle.graph.specs.Tables.{IsTableOf};
+ghost use Rattle.walks.specs.Exploring.{targets};
 ghost use Rattle.walks.specs.Joined.{targets_joined};
 ghost use Rattle.subgraph.specs.Sorting.{is_ready};
 

@@ -1,3 +1,2 @@
-pub mod LatestLaws
 pub mod Filling
 pub mod Marking

@@ -1,4 +1,3 @@
-pub mod Latest
 pub mod Filled
 pub mod Marks
 pub mod Steps

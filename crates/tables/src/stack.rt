@@ -1,12 +1,13 @@
 // A stack of node numbers.
-ghost use Rattle.std.specs.Prelude.{◌≡◌, ◌<◌, [], ◌∷◌, length, reverse};
+ghost use Rattle.std.specs.Prelude.{◌≡◌, ◌<◌, ◌≤◌, [], ◌∷◌, length, reverse};
 ghost use Rattle.tables.specs.Steps.{Steps};
 
 use arrayvec::ArrayVec;
+use records::limits::MAX_EDGES;
 use std::marker::Model;
 
 // Room for each of 4,096 edges from both of its ends, and one more.
-const ROOM: usize = 8193;
+const ROOM: usize = 2 * MAX_EDGES + 1;
 
 #[derive(Drop)]
 pub struct Stack {
@@ -46,7 +47,8 @@ impl Stack {
 
     // The numbers, the lowest first.
     pub fn as_slice(&self) -> &[u16]
-        ensures { result.now ≡ reverse self.now }
+        ensures value { result.now ≡ reverse self.now }
+        ensures few { length self.now ≤ 8193 }
     {
         self.items.as_slice()
     }

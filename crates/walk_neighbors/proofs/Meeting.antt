@@ -1,7 +1,7 @@
 -- The next node met, and going past it.
-use Rattle.std.proofs.Common.{◌≡◌, ℕ, suc, Bool, true, cond, List, [], ◌∷◌, length, Some, None, filter, Option, sym, ap, ◌∙◌, subst, arith}
+use Rattle.std.proofs.Common.{◌≡◌, ℕ, suc, true, cond, [], ◌∷◌, length, Some, None, filter, Option, sym, ap, ◌∙◌, arith}
 use Rattle.std.proofs.lemmas.Bool.{cond-true}
-use Rattle.tables.specs.Steps.{Steps, Inside, Below}
+use Rattle.tables.specs.Steps.{Steps, Below}
 use Rattle.graph.specs.Model.{model}
 use Rattle.graph.specs.Cursors.{coming}
 use Rattle.walk_neighbors.specs.declared.walk.WalkNeighbors.{WalkNeighbors}
@@ -41,14 +41,6 @@ met_stack w w' (Some n) is is' gr dir vs pop =
           ∙ ap (λ ms. cond (is_off m n) (gone_through L (is_off m) (pops_of w') ms (push_all (L n) w'.pending)) (n ∷ gone_through L (is_off m) (pops_of w') ms w'.pending)) (sym is'),
       omega arith,
     )
-
-pub popped_fits : (N : ℕ) (v : List Bool) (st : List ℕ) (r : Option ℕ) (st' : List ℕ) → Steps st r st' → Fits N (noted v st) → Inside N r × Fits N (noted v st')
-popped_fits N v st None st' pop f = (tt, subst (λ s. Fits N (noted v s)) (pop.0 ∙ sym pop.1) f)
-popped_fits N v st (Some n) st' pop f =
-    let f' : Fits N (noted v (n ∷ st')) = subst (λ s. Fits N (noted v s)) pop f in
-    let more = pops_more N n v st' in
-    let room' = f'.room in
-    (f'.below.0, record { long = f.long; below = f'.below.1; room = omega arith })
 
 -- a disabled node was met, and its list is pushed to the end
 pub gone_past : (n : ℕ) (w w' : WalkNeighbors) → Below (length (walked w).nodes) (sees w.direction (walked w) n) → is_off (walked w) n ≡ true → w'.pending ≡ push_all (sees w.direction (walked w) n) w.pending → w'.graph ≡ w.graph → w'.direction ≡ w.direction → w'.direct ≡ w.direct → (to_come w' ≡ after n w) × (left w' ≡ left w)

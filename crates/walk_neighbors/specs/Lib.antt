@@ -1,4 +1,3 @@
 pub mod PastDisabled
-pub mod Inside
 pub mod GivenOut
 pub mod Cursors

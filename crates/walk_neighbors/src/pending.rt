@@ -3,6 +3,7 @@ ghost use Rattle.std.specs.Prelude.{◌≡◌, ◌<◌, false, [], length, repli
 ghost use Rattle.tables.specs.Steps.{Steps};
 ghost use Rattle.walk_neighbors.specs.PastDisabled.{noted, push};
 
+use records::limits::MAX_NODES;
 use std::marker::Model;
 use tables::stack::Stack;
 
@@ -10,7 +11,8 @@ use tables::stack::Stack;
 #[derive(Drop)]
 pub struct Pending {
     stack: Stack,
-    visited: [bool; 1024],
+    // A fixed table by the nodes' numbers, since there is no heap.
+    visited: [bool; MAX_NODES],
 }
 
 impl Model for Pending {
@@ -27,7 +29,7 @@ impl Pending {
     {
         Pending {
             stack: Stack::new(),
-            visited: [false; 1024],
+            visited: [false; MAX_NODES],
         }
     }
 

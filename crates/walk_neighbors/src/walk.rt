@@ -1,10 +1,11 @@
 // Going through a node's neighbors, with each disabled one replaced by what lies past it.
-ghost use Rattle.std.specs.Prelude.{◌≡◌, ◌≤◌, length};
-ghost use Rattle.tables.specs.Steps.{Below};
+ghost use Rattle.std.specs.Prelude.{◌≡◌, ◌≤◌, length, filter};
+ghost use Rattle.std.specs.List.{AllByRecursion-prop};
+ghost use Rattle.std.specs.Coded.{le_prop};
+ghost use Rattle.tables.specs.Steps.{Steps, Inside, Below};
 ghost use Rattle.graph.specs.Model.{model};
 ghost use Rattle.graph.specs.Cursors.{coming};
 ghost use Rattle.walk_neighbors.specs.PastDisabled.{pops, may_reach};
-ghost use Rattle.walk_neighbors.specs.Inside.{below_prop};
 
 use crate::pending::Pending;
 use graph::neighbors::Neighbors;
@@ -18,9 +19,9 @@ pub struct WalkNeighbors<'a> {
     pub(crate) direction: Direction,
     pub(crate) direct: Neighbors<'a>,
     pub(crate) pending: Pending,
-    ghost direct_inside: { Below (length (model graph.now).nodes) (coming direct) } by { below_prop (length (model graph.now).nodes) (coming direct) },
+    ghost direct_inside: { Below (length (model graph.now).nodes) (coming direct) } by { AllByRecursion-prop _ (λ _. le_prop) (coming direct) },
     ghost long: { length (model graph.now).nodes ≤ length pending.visited },
-    ghost inside: { Below (length (model graph.now).nodes) pending.stack } by { below_prop (length (model graph.now).nodes) pending.stack },
+    ghost inside: { Below (length (model graph.now).nodes) pending.stack } by { AllByRecursion-prop _ (λ _. le_prop) pending.stack },
     ghost room: { pops (length (model graph.now).nodes) pending ≤ 1024 },
 }
 
@@ -31,11 +32,20 @@ fn may_reach(graph: &RawInstGraph, node: u16) -> bool
     graph.reach().get(node as usize).copied().unwrap_or(true)
 }
 
+// The next direct neighbor from which a node that is not disabled may be reached.
+fn next_direct(graph: &RawInstGraph, direct: &mut Neighbors<'_>) -> Option<u16>
+    requires { Below (length (model graph.now).nodes) (coming direct.old) }
+    ensures steps { Steps (filter (may_reach (model graph.now)) (coming direct.old)) result (filter (may_reach (model graph.now)) (coming direct.new)) }
+    ensures inside { Inside (length (model graph.now).nodes) result }
+    ensures left { Below (length (model graph.now).nodes) (coming direct.new) }
+{
+    direct.find(|other| may_reach(graph, *other))
+}
+
 impl<'a> WalkNeighbors<'a> {
-    ghost use Rattle.tables.specs.Steps.{Steps, Inside};
     ghost use Rattle.walk_neighbors.specs.PastDisabled.{is_off, enabled_neighbours};
     ghost use Rattle.walk_neighbors.specs.GivenOut.{GivesFrom};
-    ghost use Rattle.walk_neighbors.specs.Cursors.{direct_of, to_come, after, left, Met};
+    ghost use Rattle.walk_neighbors.specs.Cursors.{to_come, after, left, Met};
     ghost use Rattle.std.specs.Prelude.{true};
 
     // The neighbors of a node past disabled nodes, at most one for each of 4,096 edges and 1,024 nodes; a number that names no node has none.
@@ -53,25 +63,13 @@ impl<'a> WalkNeighbors<'a> {
         }
     }
 
-    // The next direct neighbor from which a node that is not disabled may be reached.
-    fn next_direct(&mut self) -> Option<u16>
-        ensures steps { Steps (direct_of self.old) result (direct_of self.new) }
-        ensures inside { Inside (length (model self.old.graph.now).nodes) result }
-        ensures graph { self.new.graph ≡ self.old.graph }
-        ensures direction { self.new.direction ≡ self.old.direction }
-        ensures pending { self.new.pending ≡ self.old.pending }
-    {
-        let graph = self.graph;
-        self.direct.find(|other| may_reach(graph, *other))
-    }
-
     // The next node, from the direct list or else from those noted.
     fn next_met(&mut self) -> Option<u16>
         ensures met { Met self.old result self.new }
-        ensures inside { Inside (length (model self.old.graph.now).nodes) result }
-        ensures graph { self.new.graph ≡ self.old.graph }
+        ensures inside { Inside (length (model self.new.graph.now).nodes) result }
     {
-        match self.next_direct() {
+        // The library's `or_else` does not say that what its closure borrows stays as it is where it is not called.
+        match next_direct(self.graph, &mut self.direct) {
             Some(node) => Some(node),
             None => self.pending.pop(),
         }
@@ -82,7 +80,6 @@ impl<'a> WalkNeighbors<'a> {
         requires { is_off (model self.old.graph.now) node ≡ true }
         ensures onward { to_come self.new ≡ after node self.old }
         ensures left { left self.new ≡ left self.old }
-        ensures graph { self.new.graph ≡ self.old.graph }
     {
         for other in self.graph.neighbors_directed(node as usize, self.direction) {
             self.pending.push(other);

@@ -5,7 +5,6 @@ use Rattle.records.specs.declared.edge.Edge.{Edge}
 use Rattle.records.specs.declared.refusal.Refusal.{Refusal}
 use Rattle.records.specs.declared.refusal.Refusal.TheVariants.{TableTooShort, ClosedWalk}
 use Rattle.records.specs.Walks.{Joins, Leads, Lowest, Acyclic}
-use Rattle.graph.specs.Adding.{room_for}
 use Rattle.graph.specs.declared.raw.RawInstGraph.{RawInstGraph}
 use Rattle.graph.specs.Model.{Model, model, unless_refused}
 use Rattle.walks.proofs.Seeing.{edges_inside}
@@ -13,14 +12,14 @@ use Rattle.walks.specs.Cycles.{comes_back, checked, acyclic_answer, Tested}
 use Rattle.walks.proofs.Closed.{back_decides, leads_inside}
 
 -- one node more
-pub checked_on : (es : List Edge) (N n : ℕ) → checked es N n ≡ Ok tt → comes_back es N n ≡ false → checked es N (suc n) ≡ Ok tt
+checked_on : (es : List Edge) (N n : ℕ) → checked es N n ≡ Ok tt → comes_back es N n ≡ false → checked es N (suc n) ≡ Ok tt
 checked_on es N n e f = ap (λ r. unless_refused r (cond (comes_back es N n) (Err (ClosedWalk n)) (Ok tt))) e ∙ cond-false _ _ _ f
 
-pub checked_stop : (es : List Edge) (N n : ℕ) → checked es N n ≡ Ok tt → comes_back es N n ≡ true → checked es N (suc n) ≡ Err (ClosedWalk n)
+checked_stop : (es : List Edge) (N n : ℕ) → checked es N n ≡ Ok tt → comes_back es N n ≡ true → checked es N (suc n) ≡ Err (ClosedWalk n)
 checked_stop es N n e t = ap (λ r. unless_refused r (cond (comes_back es N n) (Err (ClosedWalk n)) (Ok tt))) e ∙ cond-true _ _ _ t
 
 -- a refusal stays
-pub checked_stays : (es : List Edge) (N n m : ℕ) (e : Refusal) → n ≤ m → checked es N n ≡ Err e → checked es N m ≡ Err e
+checked_stays : (es : List Edge) (N n m : ℕ) (e : Refusal) → n ≤ m → checked es N n ≡ Err e → checked es N m ≡ Err e
 checked_stays es N n zero e h is = let same : n ≡ 0 = omega arith in subst (λ k. checked es N k ≡ Err e) same is
 checked_stays es N n (suc m) e h is =
     ⊎_elim
@@ -57,22 +56,11 @@ module _ (es : List Edge) (N : ℕ) (inside : (x y : ℕ) → Joins es x y → (
       err : (m : ℕ) × (checked es N n ≡ Err (ClosedWalk m)) × Lowest (Joins es) m → Found (suc n) (checked es N (suc n))
       err (m, is, low) = inr (m, checked_stays es N n (suc n) (ClosedWalk m) (omega arith) is, low)
 
--- a table passes the test where it has an entry for each node
-pub passed_room : (m : Model) (room : ℕ) → room_for room m ≡ Ok tt → length m.nodes ≤ room
-passed_room m room ok =
-    ⊎_elim
-    (λ (lt : room < length m.nodes).
-    let short : room_for room m ≡ Err (TableTooShort (length m.nodes)) = cond-true _ _ _ (lt-ltb room (length m.nodes) lt) in
-    let z : ◌≡◌ {A = ℕ} 0 1 = cc in
-    absurd (omega arith))
-    (λ (ge : length m.nodes ≤ room). ge)
-    (cases_lt room (length m.nodes))
-
 -- a table is too short, or long enough
 pub short_answer : (m : Model) (room : ℕ) → room < length m.nodes → acyclic_answer m room ≡ Err (TableTooShort (length m.nodes))
 short_answer m room lt = ap (λ r. unless_refused r (checked m.edges (length m.nodes) (length m.nodes))) (cond-true _ _ _ (lt-ltb room (length m.nodes) lt))
 
-pub long_answer : (m : Model) (room : ℕ) → length m.nodes ≤ room → acyclic_answer m room ≡ checked m.edges (length m.nodes) (length m.nodes)
+long_answer : (m : Model) (room : ℕ) → length m.nodes ≤ room → acyclic_answer m room ≡ checked m.edges (length m.nodes) (length m.nodes)
 long_answer m room ge = ap (λ r. unless_refused r (checked m.edges (length m.nodes) (length m.nodes))) (cond-false _ _ _ (le-ltb room (length m.nodes) ge))
 
 pub tested : (m : Model) → ((x y : ℕ) → Joins m.edges x y → (x < length m.nodes) × (y < length m.nodes)) → (room : ℕ) → Tested m room (acyclic_answer m room)

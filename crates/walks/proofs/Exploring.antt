@@ -1,10 +1,11 @@
 -- The stack walk.
-use Rattle.std.proofs.Common.{◌≡◌, ℕ, zero, suc, ◌+◌, ◌<◌, ◌≤◌, Bool, true, false, cond, not, ◌≢◌, ◌⊎◌, List, [], ◌∷◌, ◌++◌, length, get_or, set, sym, refl, ap, ◌∙◌, subst, inl, inr, ⊎_elim, arith}
+use Rattle.std.proofs.Common.{◌≡◌, ℕ, zero, suc, ◌+◌, ◌<◌, ◌≤◌, Bool, true, false, cond, not, ◌≢◌, ◌⊎◌, List, [], ◌∷◌, ◌++◌, length, get_or, set, sym, refl, ap, ◌∙◌, subst, inl, inr, ⊎_elim, append_assoc, arith}
 use Rattle.std.proofs.lemmas.List.{get_or-set_same, get_or-set_other}
 use Rattle.std.proofs.lemmas.Bool.{cases_eq, cases_Bool, cond-true, cond-false}
+use Rattle.std.proofs.lemmas.Grind.{common_steps}
 use Rattle.tables.specs.Steps.{Below}
 use Rattle.records.specs.Walks.{Among}
-use Rattle.walks.specs.Exploring.{stacked, piled, fresh, Trail, walked, pending}
+use Rattle.walks.specs.Exploring.{stacked, piled, fresh, Trail, walked, searched, pending}
 
 -- ---- stacks
 module _ (test : ℕ → Bool) where
@@ -24,25 +25,11 @@ module _ (test : ℕ → Bool) where
   -- and nothing else comes onto it
   pub stacked_only : (xs st : List ℕ) (y : ℕ) → Among y (stacked test xs st) → (Among y xs × (test y ≡ true)) ⊎ Among y st
   stacked_only [] st y h = inr h
-  stacked_only (x ∷ xs) st y h =
-      ⊎_elim
-      (λ p. inl (inr p.0, p.1))
-      (λ a. ⊎_elim
-      (λ (t : test x ≡ true). first t (subst (λ l. Among y l) (cond-true _ (x ∷ st) st t) a))
-      (λ (f : test x ≡ false). inr (subst (λ l. Among y l) (cond-false _ (x ∷ st) st f) a))
-      (cases_Bool (test x)))
-      (stacked_only xs (cond (test x) (x ∷ st) st) y h)
-    where
-      first : test x ≡ true → Among y (x ∷ st) → (Among y (x ∷ xs) × (test y ≡ true)) ⊎ Among y st
-      first t (inl e) = inl (inl e, ap test e ∙ t)
-      first t (inr a) = inr a
+  stacked_only (x ∷ xs) st y h = grind (arith, common_steps, stacked_only xs (cond (test x) (x ∷ st) st) y h)
 
   pub length_stacked : (xs st : List ℕ) → length (stacked test xs st) ≤ length xs + length st
   length_stacked [] st = omega arith
-  length_stacked (x ∷ xs) st =
-      let rest = length_stacked xs (cond (test x) (x ∷ st) st) in
-      let one : length (cond (test x) (x ∷ st) st) ≤ suc (length st) = elim (test x) as (λ b. length (cond b (x ∷ st) st) ≤ suc (length st)) [ true ↦ omega arith | false ↦ omega arith ] in
-      omega arith
+  length_stacked (x ∷ xs) st = grind (arith, common_steps, length_stacked xs (cond (test x) (x ∷ st) st))
 
   -- what is below n stays so
   pub below_stacked : (n : ℕ) (xs st : List ℕ) → ((y : ℕ) → Among y xs → y < n) → Below n st → Below n (stacked test xs st)
@@ -68,15 +55,7 @@ below_at n (x ∷ xs) y b (inr h) = below_at n xs y b.1 h
 -- ---- the first node not visited
 pub fresh_none : (v : List Bool) (st : List ℕ) (y : ℕ) → fresh v st ≡ [] → Among y st → get_or v y false ≡ true
 fresh_none v [] y e h = absurd h
-fresh_none v (x ∷ st) y e h =
-    ⊎_elim
-    (λ (t : get_or v x false ≡ true). at t (fresh_none v st y (sym (cond-true _ (fresh v st) (x ∷ st) t) ∙ e)) h)
-    (λ (f : get_or v x false ≡ false). let bad : x ∷ st ≡ [] = sym (cond-false _ (fresh v st) (x ∷ st) f) ∙ e in let z : ◌≡◌ {A = ℕ} 0 1 = cc in absurd (omega arith))
-    (cases_Bool (get_or v x false))
-  where
-    at : get_or v x false ≡ true → (Among y st → get_or v y false ≡ true) → Among y (x ∷ st) → get_or v y false ≡ true
-    at t deeper (inl is) = ap (λ i. get_or v i false) is ∙ t
-    at t deeper (inr a) = deeper a
+fresh_none v (x ∷ st) y e h = grind (arith, common_steps, fresh_none v st y)
 
 pub record Fresh (v : List Bool) (st : List ℕ) (n : ℕ) (rest : List ℕ) : Type 0 where
   pub new : get_or v n false ≡ false
@@ -85,7 +64,7 @@ pub record Fresh (v : List Bool) (st : List ℕ) (n : ℕ) (rest : List ℕ) : T
   pub part : (y : ℕ) → Among y rest → Among y st
 
 pub fresh_some : (v : List Bool) (st : List ℕ) (n : ℕ) (rest : List ℕ) → fresh v st ≡ n ∷ rest → Fresh v st n rest
-fresh_some v [] n rest e = let z : ◌≡◌ {A = ℕ} 0 1 = cc in absurd (omega arith)
+fresh_some v [] n rest e = absurd cc
 fresh_some v (x ∷ st) n rest e =
     ⊎_elim
     (λ (t : get_or v x false ≡ true). old t (fresh_some v st n rest (sym (cond-true _ (fresh v st) (x ∷ st) t) ∙ e)))
@@ -128,6 +107,30 @@ turn_new push k n st v o f = walk_steps push k (n ∷ st) v o n st (cond-false (
 pub turn_none : (push : ℕ → List Bool → List ℕ → List ℕ) (k : ℕ) (v : List Bool) (o : List ℕ) → walked push k [] v o ≡ record { visited = v; order = o }
 turn_none push zero v o = refl
 turn_none push (suc k) v o = refl
+
+-- a walk has the marks of another one, and its order with more behind it
+pub record WithBehind (more : List ℕ) (t u : Trail) : Type 0 where
+  pub marks : t.visited ≡ u.visited
+  pub order : t.order ≡ u.order ++ more
+
+-- walking on from an order is walking from the empty one, with that order behind
+pub walked_on : (push : ℕ → List Bool → List ℕ → List ℕ) (k : ℕ) (st : List ℕ) (v : List Bool) (o : List ℕ) → WithBehind o (walked push k st v o) (walked push k st v [])
+walked_on push zero st v o = record { marks = refl; order = refl }
+walked_on push (suc k) st v o = go (walked_on push k) (fresh v st)
+  where
+    turn : List ℕ → List ℕ → Trail
+    turn l before = elim l [ [] ↦ record { visited = v; order = before } | m ∷ rest ↦ walked push k (push m (set v m true) rest) (set v m true) (m ∷ before) ]
+
+    go : ((s : List ℕ) (w : List Bool) (before : List ℕ) → WithBehind before (walked push k s w before) (walked push k s w [])) → (l : List ℕ) → WithBehind o (turn l o) (turn l [])
+    go on [] = record { marks = refl; order = refl }
+    go on (m ∷ rest) =
+        let w = set v m true in
+        let later = on (push m w rest) w (m ∷ o) in
+        let first = on (push m w rest) w (m ∷ []) in
+        record { marks = later.marks ∙ sym first.marks; order = later.order ∙ sym (append_assoc _ (m ∷ []) o) ∙ ap (λ l. l ++ o) (sym first.order) }
+
+pub searched_on : (test : List Bool → ℕ → Bool) (next : ℕ → List ℕ) (k : ℕ) (st : List ℕ) (v : List Bool) (o : List ℕ) → WithBehind o (searched test next k st v o) (searched test next k st v [])
+searched_on test next k st v o = walked_on (λ n w s. stacked (test w) (next n) s) k st v o
 
 -- ---- what is pending
 pending_past : (next : ℕ → List ℕ) (n j : ℕ) (v : List Bool) (b : Bool) → n ≤ j → pending next n (set v j b) ≡ pending next n v

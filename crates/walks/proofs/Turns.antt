@@ -19,7 +19,7 @@ module _ (test : List Bool → ℕ → Bool) (next : ℕ → List ℕ) (N : ℕ)
   starts b r = let few = blanks_le N v₀ in record { same = refl; below = b; room = r; notes = omega arith }
 
   module _ (v : List Bool) (st rest o : List ℕ) (n : ℕ) (top : st ≡ n ∷ rest) (g : Going test next N v₀ st₀ v st o) where
-    pub top_below : (n < N) × Below N rest
+    top_below : (n < N) × Below N rest
     top_below = subst (Below N) top g.below
 
     module _ (new : get_or v n false ≡ false) (long : N ≤ length v) where

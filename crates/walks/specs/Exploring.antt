@@ -1,13 +1,8 @@
 -- Stack searches over the edges, which are given in the order of adding.
-use Rattle.std.specs.Prelude.{◌≡◌, ℕ, zero, suc, ◌+◌, ◌≤◌, Bool, true, false, cond, not, List, [], ◌∷◌, ◌++◌, length, slice_index_or, slice_set}
+use Rattle.std.specs.Prelude.{◌≡◌, ℕ, zero, suc, ◌+◌, Bool, true, false, cond, not, List, [], ◌∷◌, ◌++◌, length, slice_index_or, slice_set}
 use Rattle.records.specs.declared.edge.Edge.{Edge}
 use Rattle.records.specs.declared.edge.Direction.TheVariants.{Outgoing, Incoming}
 use Rattle.records.specs.Edges.{history, neighbours}
-use Rattle.graph.specs.Model.{Model}
-
--- a table has an entry for each node
-abbrev pub IsTableOf : Model → List Bool → Type 0
-IsTableOf m table = length m.nodes ≤ length table
 
 -- where the edges from n lead, and where those to n come from, the newest edge first
 abbrev pub targets : List Edge → ℕ → List ℕ

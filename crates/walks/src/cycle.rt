@@ -3,7 +3,7 @@ ghost use Rattle.std.specs.Prelude.{◌≡◌, ◌<◌, length};
 ghost use Rattle.tables.specs.Filled.{Blank};
 ghost use Rattle.graph.specs.Model.{model};
 ghost use Rattle.walks.specs.Cycles.{comes_back, acyclic_answer, left_blank, Tested};
-ghost use Rattle.walks.specs.Exploring.{IsTableOf};
+ghost use Rattle.graph.specs.Tables.{IsTableOf};
 
 use crate::explore::{Along, Search, explore};
 use graph::raw::RawInstGraph;
@@ -11,7 +11,8 @@ use records::refusal::Refusal;
 use tables::fill::fill;
 use tables::stack::Stack;
 
-// Whether a walk of one or more edges leads from a node to itself.
+// Whether a walk of one or more edges leads from a node to itself. That a number names a node is asked here, since a
+// number that brings its graph along would be no plainer.
 fn leads_back(graph: &RawInstGraph, node: u16, visited: &mut [bool]) -> bool
     requires node { node < length (model graph.now).nodes }
     requires table { IsTableOf (model graph.now) visited.old }

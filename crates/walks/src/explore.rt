@@ -6,7 +6,8 @@ ghost use Rattle.records.specs.declared.edge.Edge.{Edge};
 ghost use Rattle.tables.specs.Marks.{blanks};
 ghost use Rattle.tables.specs.Steps.{Below};
 ghost use Rattle.graph.specs.Model.{model};
-ghost use Rattle.walks.specs.Exploring.{IsTableOf, targets, nexts, is_unvisited, stacked, piled, pending, searched, Left};
+ghost use Rattle.graph.specs.Tables.{IsTableOf};
+ghost use Rattle.walks.specs.Exploring.{targets, nexts, is_unvisited, stacked, piled, pending, searched, Left};
 ghost use Rattle.walks.specs.Joined.{targets_joined, nexts_joined};
 
 use graph::raw::RawInstGraph;
@@ -14,7 +15,7 @@ use records::edge::Direction;
 use tables::stack::Stack;
 
 // What a search goes on with from each node that it visits. The marks stay a table of the caller's: a struct that
-// held it as a `&mut` beside the stack would be no plainer, since each contract had to say how the marks come back.
+// held it as a `&mut` beside the stack would be no plainer, since each contract would have to say how the marks come back.
 pub trait Search {
     // The nodes that come next.
     ghost next: { List Edge → ℕ → List ℕ };
@@ -66,7 +67,7 @@ impl Search for Both {
 }
 
 // Pushes a node's neighbors that are not visited.
-fn push_unvisited(
+pub fn push_unvisited(
     graph: &RawInstGraph,
     direction: Direction,
     node: u16,
@@ -75,7 +76,8 @@ fn push_unvisited(
 )
     requires table { IsTableOf (model graph.now) visited.now }
     requires room { length stack.old + length (neighbours direction (history (model graph.now).edges) node) ≤ 8193 }
-    ensures { stack.new ≡ piled (neighbours direction (history (model graph.now).edges) node) visited.now stack.old }
+    ensures pushed { stack.new ≡ piled (neighbours direction (history (model graph.now).edges) node) visited.now stack.old }
+    ensures below { Below (length (model graph.now).nodes) stack.old → Below (length (model graph.now).nodes) stack.new }
 {
     for other in graph.neighbors_directed(node as usize, direction) {
         if !visited[other as usize] {

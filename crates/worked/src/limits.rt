@@ -107,3 +107,18 @@ fn lists_run_newest_edge_first(rt: HostRuntime) {
     let mut nowhere = graph.neighbors_directed(3, Direction::Outgoing);
     assert_eq!(rt; nowhere.next(), None);
 }
+
+#[test]
+fn a_walker_goes_on_while_the_graph_grows(rt: HostRuntime) {
+    let mut graph = RawInstGraph::new();
+    for item in 0..3u32 {
+        assert_eq!(rt; graph.add_node(NodeKind::ENode, item), Ok(item as usize));
+    }
+    assert_eq!(rt; graph.add_edge(0, 1), Ok(0));
+    assert_eq!(rt; graph.add_edge(0, 2), Ok(1));
+    let mut walker = graph.neighbors_directed(0, Direction::Outgoing).detach();
+    assert_eq!(rt; walker.next(&graph), Some(2));
+    assert_eq!(rt; graph.add_edge(0, 0), Ok(2));
+    assert_eq!(rt; walker.next(&graph), Some(1));
+    assert_eq!(rt; walker.next(&graph), None);
+}

@@ -27,9 +27,9 @@ fn a_closed_walk_instead_of_subgraphs(rt: HostRuntime) -> Result<(), Fail> {
 fn a_refusal_in_one_line(rt: HostRuntime) -> Result<(), Fail> {
     let text = report(rt.alloc(), &LOST_EDGE)?;
     assert_eq!(rt; text.as_str(), "refused sheet 17 15 graph 3 5\n");
-    let text = report(rt.alloc(), &DIAMOND[0..4])?;
+    let text = report(rt.alloc(), &DIAMOND[..4])?;
     assert_eq!(rt; text.as_str(), "refused sheet 12 4\n");
-    let text = report(rt.alloc(), &DIAMOND[0..48])?;
+    let text = report(rt.alloc(), &DIAMOND[..48])?;
     assert_eq!(rt; text.as_str(), "refused sheet 14 1\n");
     Ok(())
 }

@@ -6,7 +6,6 @@ use reconnect::reach::{BwdReachableAnalysis, ReachNonDisabled, ReachVisible};
 use records::node::{NodeKind, Visibility};
 use records::refusal::Refusal;
 use records::sheet_refusal::SheetRefusal;
-use std::marker::PhantomData;
 use std::test::Fail;
 
 // Nodes 0, 1, 2, 3 with edges 0 to 1, 1 to 2, where 2 is disabled, and 3 without edges; sealed.
@@ -103,8 +102,8 @@ fn keeping_counts_entries_of_the_list(rt: HostRuntime) -> Result<(), Fail> {
 fn what_can_be_reached(rt: HostRuntime) -> Result<(), Fail> {
     let mut graph = chain()?;
     assert_eq!(rt; graph.set_visibility(1, Visibility::Visible), Ok(true));
-    let enabled: BwdReachableAnalysis<ReachNonDisabled> = BwdReachableAnalysis(PhantomData);
-    let shown: BwdReachableAnalysis<ReachVisible> = BwdReachableAnalysis(PhantomData);
+    let enabled = BwdReachableAnalysis::<ReachNonDisabled>::default();
+    let shown = BwdReachableAnalysis::<ReachVisible>::default();
     let mut table = [true; 5];
     assert_eq!(rt; graph.topo_analysis(&enabled, &mut table), Ok(()));
     assert_eq!(rt; table, [true, true, false, true, true]);

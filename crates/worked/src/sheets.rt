@@ -33,24 +33,14 @@ fn plain_sheet(heap: Global, nodes: u16, edges: u16) -> Result<Vec<u8>, AllocErr
     let mut bytes = Vec::new(heap);
     let body = 4 + 6 * nodes as u32 + 4 * edges as u32;
     bytes.push(1)?;
-    for byte in body.to_be_bytes() {
-        bytes.push(byte)?;
-    }
-    for byte in nodes.to_be_bytes() {
-        bytes.push(byte)?;
-    }
+    bytes.extend_from_slice(&body.to_be_bytes())?;
+    bytes.extend_from_slice(&nodes.to_be_bytes())?;
     for _ in 0..nodes {
-        for byte in [1, 1, 0, 0, 0, 0] {
-            bytes.push(byte)?;
-        }
+        bytes.extend_from_slice(&[1, 1, 0, 0, 0, 0])?;
     }
-    for byte in edges.to_be_bytes() {
-        bytes.push(byte)?;
-    }
+    bytes.extend_from_slice(&edges.to_be_bytes())?;
     for _ in 0..edges {
-        for byte in [0, 0, 0, 0] {
-            bytes.push(byte)?;
-        }
+        bytes.extend_from_slice(&[0, 0, 0, 0])?;
     }
     Ok(bytes)
 }
@@ -96,14 +86,7 @@ fn a_refused_sheet_leaves_an_empty_open_graph(rt: HostRuntime) {
     );
     assert_eq!(rt; graph.nodes().len(), 0);
     assert_eq!(rt; graph.edges().len(), 0);
-    assert_eq!(rt;
-        graph.stats(),
-        GraphStats {
-            hidden: 0,
-            disabled: 0,
-            generation: 0,
-        }
-    );
+    assert_eq!(rt; graph.stats(), GraphStats::default());
     assert_eq!(rt; graph.add_node(NodeKind::ENode, 0), Ok(0));
 }
 
@@ -115,7 +98,7 @@ fn cut_at_every_byte(rt: HostRuntime) {
         } else {
             SheetRefusal::Length
         };
-        assert_eq!(rt; read(&DIAMOND[0..cut]), Err(expected));
+        assert_eq!(rt; read(&DIAMOND[..cut]), Err(expected));
     }
 }
 
@@ -135,7 +118,7 @@ fn cut_at_every_byte_of_the_body(rt: HostRuntime) {
         let mut sheet = DIAMOND;
         sheet[4] = ((cut - 5) % 256) as u8;
         assert_eq!(rt;
-            read(&sheet[0..cut]),
+            read(&sheet[..cut]),
             Err(SheetRefusal::Misfit(cut_part(cut)))
         );
     }

@@ -5,20 +5,17 @@ use reconnect::strands::ReconnectAnalysis;
 use records::node::{NodeKind, Visibility};
 use records::refusal::Refusal;
 use records::strand::{BLANK, Path, Strand, Strands};
-use std::marker::PhantomData;
 use std::test::Fail;
 
 const COVERED: Strands = Strands {
-    plain: Strand::Absent,
-    marked: Strand::Absent,
     covered: true,
+    ..BLANK
 };
 
 fn marked(path: Path) -> Strands {
     Strands {
-        plain: Strand::Absent,
         marked: Strand::Along(path),
-        covered: false,
+        ..BLANK
     }
 }
 
@@ -41,7 +38,7 @@ fn two_ways_to_three() -> Result<InstGraph, Refusal> {
 
 // The strands of a source, where all nodes lead to a shown one.
 fn strands_of(graph: &InstGraph, source: usize) -> Result<[Strands; 5], Refusal> {
-    let reach: BwdReachableAnalysis<ReachVisible> = BwdReachableAnalysis(PhantomData);
+    let reach = BwdReachableAnalysis::<ReachVisible>::default();
     let mut live = [false; 5];
     graph.topo_analysis(&reach, &mut live)?;
     let mut table = [COVERED; 5];
@@ -58,7 +55,10 @@ fn strands_from_the_first_node(rt: HostRuntime) -> Result<(), Fail> {
     let graph = two_ways_to_three()?;
     let covered_after = Strands {
         covered: true,
-        ..marked(Path::Past(1, true))
+        ..marked(Path::Past {
+            node: 1,
+            marked: true,
+        })
     };
     assert_eq!(rt;
         strands_of(&graph, 0),

@@ -1,4 +1,4 @@
-use Rattle.std.proofs.Common.{false, length, take, sym, refl, ap, ◌∙◌, subst}
+use Rattle.std.proofs.Common.{false, length, take, sym, ap, ◌∙◌, subst}
 use Rattle.tables.specs.Filled.{filled}
 use Rattle.graph.specs.Model.{Model, model}
 use Rattle.graph.specs.Sealing.{with_reach}
@@ -39,7 +39,6 @@ returns c =
     let after = c.put_reach.ensures in
     let tells = c.reach.ensures.tells (c.reach.ensures.answer ∙ run_done m c.args.work.now c.requires.sealed c.requires.room) in
     record {
-      done = refl;
       after = after ∙ ap (λ l. with_reach l m) is;
       table = c.fill.ensures ∙ ap (λ n. filled n false t) count ∙ blank_again m c.args.work.now c.requires.sealed c.requires.room t c.reach.ensures.values;
       tells = subst (TellsReach is_enabled (graph_in m)) (sym (ap (λ (x : Model). x.reach) after ∙ piece)) tells;

@@ -1,5 +1,5 @@
-use Rattle.std.proofs.Common.{◌≡◌, ℕ, length, take, IsErrAnd, IfOk, Ok, Err, Result, ap, ◌∙◌, arith}
-use Rattle.records.specs.declared.refusal.Refusal.{Refusal}
+use Rattle.std.proofs.Common.{◌≡◌, length, take, IfOk, Ok, Err, sym, ap, ◌∙◌, subst}
+use Rattle.std.proofs.lemmas.Result.{err_from_is_err_and}
 use Rattle.records.specs.Stages.{of_open}
 use Rattle.graph.specs.Model.{model, outcome}
 use Rattle.inst_graph.specs.Seals.{WellSealed}
@@ -8,14 +8,6 @@ use Rattle.graph.specs.Sealing.{sealed_in}
 use Rattle.subgraph.specs.Subgraphs.{in_order}
 use Rattle.inst_graph.proofs.seal.seal.Goals as goal
 
-err_is : (r : Result ℕ Refusal) (e : Refusal) → IsErrAnd r (λ f. f ≡ e) → r ≡ Err e
-err_is (Ok x) e q = absurd q
-err_is (Err x) e q = ap Err q
-
-no_law : (r : Result ℕ Refusal) (e : Refusal) (P : ℕ → Type 0) → r ≡ Err e → IfOk r P
-no_law (Ok x) e P q = let z : ◌≡◌ {A = ℕ} 0 1 = cc in absurd (omega arith)
-no_law (Err x) e P q = tt
-
 pub returns-in_err-parts : goal.returns-in_err-parts
 returns-in_err-parts c =
     let g = c.args.graph.now in
@@ -23,13 +15,14 @@ returns-in_err-parts c =
     let was = c.in_err-parts.ensures in
     let e = c.in_err-parts.field-0.0 in
     let r = c.from_residual-in_err-parts.result in
-    let is = err_is r e c.from_residual-in_err-parts.ensures.1 in
+    let found = err_from_is_err_and r c.from_residual-in_err-parts.ensures.1 in
+    let is : r ≡ Err e = found.1 ∙ ap Err found.2 in
     let adm = c.in_ok-admit.ensures ∙ ap of_open c.stage.ensures in
     let whole = ap (λ x. outcome x (model g)) is ∙ refused_whole g work adm e was.answer in
     record {
       whole = whole;
       table = refused_table g work adm c.subgraphs.new.work was.table;
-      law = no_law r e (λ _. WellSealed (model g) (model g)) is;
+      law = subst (λ q. IfOk q (λ _. WellSealed (model g) (model g))) (sym is) tt;
       refusals = refusals g (length work) r (model g) whole;
     }
 

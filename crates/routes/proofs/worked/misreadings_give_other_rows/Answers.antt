@@ -1,5 +1,5 @@
 use Rattle.std.proofs.Common.{ℕ, List, [], ◌∷◌, length, Some, None, ap, arith}
-use Rattle.routes.specs.Lists.{joined}
+use Rattle.std.specs.List.{flat_map}
 use Rattle.routes.specs.View.{Row, direct, across}
 use Rattle.routes.proofs.worked.misreadings_give_other_rows.Goals as goal
 
@@ -14,7 +14,7 @@ unfolding with_path
 returns c = (
   (λ e. let n = ap length e in omega arith),
   (λ e. let n = ap length e in omega arith),
-  (λ e. let n = ap (λ rows. length (joined with_path rows)) e in omega arith),
-  (λ e. let n = ap (λ rows. length (joined with_path rows)) e in omega arith),
+  (λ e. let n = ap (λ rows. length (flat_map with_path rows)) e in omega arith),
+  (λ e. let n = ap (λ rows. length (flat_map with_path rows)) e in omega arith),
   (λ e. let n = ap length e in omega arith),
 )

@@ -1,4 +1,4 @@
-use Rattle.std.proofs.Common.{◌≡◌, ℕ, IfOk, Ok, Err, string_bytes, Result, refl, ap, ◌∙◌, subst, arith}
+use Rattle.std.proofs.Common.{◌≡◌, IfOk, Ok, Err, string_bytes, Result, refl, ap, ◌∙◌, subst}
 use Rattle.records.specs.declared.sheet_refusal.SheetRefusal.{SheetRefusal}
 use Rattle.graph.specs.Model.{Model}
 use Rattle.sheet.specs.Reading.{sheet_read, answered, left}
@@ -8,7 +8,7 @@ use Rattle.sheet_report.proofs.report.report.Goals as goal
 -- of a sheet that was read, the report is that on the graph
 read_report : (o : Result Model SheetRefusal) → Ok tt ≡ answered o → graph_text (left o) ≡ reported o
 read_report (Ok m) e = refl
-read_report (Err x) e = let z : ◌≡◌ {A = ℕ} 0 1 = cc in absurd (omega arith)
+read_report (Err x) e = absurd cc
 
 pub returns-in-Ok : goal.returns-in-Ok
 returns-in-Ok c =

@@ -4,14 +4,16 @@ use Rattle.records.specs.declared.edge.Edge.{Edge}
 use Rattle.records.specs.declared.edge.Direction.TheVariants.{Outgoing}
 use Rattle.records.specs.Edges.{history}
 use Rattle.tables.specs.Marks.{blanks}
+use Rattle.graph.specs.declared.raw.RawInstGraph.{RawInstGraph}
 use Rattle.graph.specs.Model.{model}
 use Rattle.graph.proofs.Sound.{sound}
 use Rattle.walks.specs.Exploring.{targets, nexts, Trail, explored, Left}
 use Rattle.walks.proofs.Seeing.{edges_inside}
 use Rattle.walks.proofs.Degrees.{pending_total, total_edges}
 use Rattle.subgraph.specs.Orders.{found_from}
-use Rattle.subgraph.proofs.Components.{room_two, tied, below_starts, length_starts}
+use Rattle.subgraph.proofs.Components.{room_two, Tie, tied, below_starts, length_starts}
 use Rattle.subgraph.proofs.order.order_from.Goals as goal
+use Rattle.subgraph.proofs.order.order_from.Goals.{After-explore-found}
 
 pub explore-found-requires-clause-room : goal.explore-found-requires-clause-room
 explore-found-requires-clause-room c =
@@ -25,28 +27,37 @@ explore-found-requires-clause-room c =
 found_left : (es : List Edge) (N : ℕ) (v : List Bool) (root : ℕ) (top st : List ℕ) (v' : List Bool) (o' : List ℕ) → st ≡ root ∷ top → top ≡ [] → Left (explored (nexts es) (blanks N v) st v []) v' o' → Left (found_from es N v root) v' o'
 found_left es N v root top st v' o' p q l = subst (λ (t : Trail). Left t v' o') (ap (λ s. explored (nexts es) (blanks N v) s v []) (p ∙ ap (λ s. root ∷ s) q)) l
 
-pub explore-requires-clause-below : goal.explore-requires-clause-below
-explore-requires-clause-below c =
+-- what the search both ways leaves, and what holds of it
+record Searched (g : RawInstGraph) (v v' : List Bool) (root : ℕ) (found : List ℕ) : Type 0 where
+  pub left : Left (found_from (model g).edges (length (model g).nodes) v root) v' found
+  pub tie : Tie (length (model g).nodes) v (found_from (model g).edges (length (model g).nodes) v root).visited (found_from (model g).edges (length (model g).nodes) v root).order
+
+searched : (c : After-explore-found) → Searched c.args.graph.now c.args.visited.now c.explore-found.new.visited c.args.root c.explore-found.result
+searched c =
     let g = c.args.graph.now in
     let es = (model g).edges in
     let N = length (model g).nodes in
     let v = c.args.visited.now in
-    let left = found_left es N v c.args.root c.new-stack.result c.push.new.self c.explore-found.new.visited c.explore-found.result c.push.ensures c.new-stack.ensures c.explore-found.ensures in
-    let tie = tied es N (edges_inside g) c.args.root c.requires.root v c.requires.visited_room c.requires.shut c.requires.unvisited in
-    rw (c.start_nodes-chosen.ensures, left.turns) (below_starts es N _ tie.below)
+    record {
+      left = found_left es N v c.args.root c.new-stack.result c.push.new.self c.explore-found.new.visited c.explore-found.result c.push.ensures c.new-stack.ensures c.explore-found.ensures;
+      tie = tied es N (edges_inside g) c.args.root c.requires.root v c.requires.visited_room c.requires.shut c.requires.unvisited;
+    }
+
+pub explore-requires-clause-below : goal.explore-requires-clause-below
+explore-requires-clause-below c =
+    let s = searched (goal.at.explore-requires-clause-below c).After-explore-found in
+    rw (c.start_nodes-chosen.ensures, s.left.turns) (below_starts (model c.args.graph.now).edges _ _ s.tie.below)
 
 pub explore-requires-clause-room : goal.explore-requires-clause-room
 explore-requires-clause-room c =
     let g = c.args.graph.now in
     let es = (model g).edges in
     let N = length (model g).nodes in
-    let v = c.args.visited.now in
-    let left = found_left es N v c.args.root c.new-stack.result c.push.new.self c.explore-found.new.visited c.explore-found.result c.push.ensures c.new-stack.ensures c.explore-found.ensures in
-    let tie = tied es N (edges_inside g) c.args.root c.requires.root v c.requires.visited_room c.requires.shut c.requires.unvisited in
-    let found = ap length left.turns in
+    let s = searched (goal.at.explore-requires-clause-room c).After-explore-found in
+    let found = ap length s.left.turns in
     let chosen = ap length c.start_nodes-chosen.ensures in
     let few = length_starts es c.explore-found.result in
-    let most = tie.size in
+    let most = s.tie.size in
     let edges = (sound g).few_edges in
     let nodes = (sound g).few_nodes in
     let p = pending_total (targets es) N c.args.appended.now in

@@ -9,8 +9,8 @@ push-requires c =
     let front = take c.loop-node.node-index c.as_slice-node-items.result.now in
     let few = length_starts (model c.args.graph.now).edges (reverse front) in
     let chosen = ap length c.loop-node.invariant in
-    let all = ap length c.as_slice-node-items.ensures in
+    let all = ap length c.as_slice-node-items.ensures.value in
     let turned = length-reverse c.args.found.now in
     let size = length-reverse front in
     let short = length-take c.loop-node.node-index c.as_slice-node-items.result.now in
-    omega (arith, c.requires, c.loop-node-test.true)
+    omega (arith, c.as_slice-node-items.ensures.few, c.loop-node-test.true)

@@ -1,8 +1,8 @@
-use Rattle.std.proofs.Common.{[], length}
+use Rattle.std.proofs.Common.{false, [], length, replicate}
 use Rattle.graph.specs.Model.{model}
 use Rattle.subgraph.specs.Partitions.{parted}
-use Rattle.subgraph.specs.Places.{Filled}
+use Rattle.subgraph.proofs.Partitioning.{Filling}
 use Rattle.subgraph.proofs.partition.partition.Given as goal
 
 abbrev pub invariant-loop-node : goal.invariant-loop-node
-invariant-loop-node l = Filled (parted (model l.graph).edges (length (model l.graph).nodes) l.node (record { found = l.initial.found; appended = l.initial.appended; orders = [] })) l.found l.appended l.subgraphs
+invariant-loop-node l = Filling (parted (model l.graph).edges (length (model l.graph).nodes) l.node (record { found = l.initial.found; appended = replicate 1024 false; orders = [] })) l.found l.appended l.subgraphs

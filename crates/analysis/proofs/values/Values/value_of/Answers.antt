@@ -15,7 +15,7 @@ join_all-requires-clause-gives g c =
     let m = model c.args.self.now.graph.now in
     let way = c.looking_along-direction.ensures ∙ ap looking_along c.FORWARD.ensures in
     let all : skp ≡ false = search rules in
-    (YieldsList-from_first (λ k. k) coming (near_of fwd skp m c.args.at) (near_direct fwd skp m c.args.at _ _ way all c.neighbors_directed.ensures)).runs
+    (YieldsList-from_first (λ k. k) coming (near_of fwd skp m c.args.at) (near_direct fwd skp m c.args.at _ _ way all c.neighbors_directed.ensures.list)).runs
 
 pub join_all-requires-else-disabled-clause-gives : goal.join_all-requires-else-disabled-clause-gives
 join_all-requires-else-disabled-clause-gives g c =

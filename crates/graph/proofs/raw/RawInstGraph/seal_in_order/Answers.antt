@@ -18,8 +18,7 @@ invariant_of-self c =
     let nodes = items_places g.nodes c.deref_mut.result.now c.put_places.new.nodes places c.deref_mut.ensures.value c.put_places.ensures in
     let many = ap length nodes ∙ length_places places g.nodes.items in
     let edges = edges_in g.edges in
-    let r = c.requires in
-    let all = ordered_all g.nodes.items (with_items g.nodes c.put_places.new.nodes).items edges c.args.order.now _ _ many c.new.ensures.order c.new.ensures.reach g.ends r.long r.within r.complete r.once r.topological in
+    let all = ordered_all g.nodes.items (with_items g.nodes c.put_places.new.nodes).items edges c.args.order.now _ _ many c.new.ensures.order c.new.ensures.reach g.ends c.requires.order in
     record {
       few = subst (λ n. n ≤ 1024) (sym many) g.few;
       hides = g.hides ∙ sym (ap (tally Hidden) nodes ∙ tally_places places g.nodes.items Hidden);
@@ -34,5 +33,5 @@ returns c =
     let places = c.args.places.now in
     let nodes = items_places g.nodes c.deref_mut.result.now c.put_places.new.nodes places c.deref_mut.ensures.value c.put_places.ensures in
     let order = c.new.ensures.order in
-    let reach = c.new.ensures.reach ∙ ap (λ n. replicate n true) c.requires.long in
+    let reach = c.new.ensures.reach ∙ ap (λ n. replicate n true) c.requires.order.long in
     cc

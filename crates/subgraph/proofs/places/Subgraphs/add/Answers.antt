@@ -9,4 +9,4 @@ bounds-self-node c =
     let items = c.as_slice-node-items.result.now in
     let node = get_or items c.loop-position.position 0 in
     below_at 1024 c.args.order.now node c.requires.nodes
-    (among_reversed node c.args.order.now (subst (Among node) c.as_slice-node-items.ensures (get_or_among items c.loop-position.position 0 c.loop-position-test.true)))
+    (among_reversed node c.args.order.now (subst (Among node) c.as_slice-node-items.ensures.value (get_or_among items c.loop-position.position 0 c.loop-position-test.true)))

@@ -1,18 +1,27 @@
-use Rattle.std.proofs.Common.{◌<◌, length, sym, ap, ◌∙◌, arith}
+use Rattle.std.proofs.Common.{◌≡◌, ◌<◌, true, length, sym, ap, ◌∙◌, arith}
 use Rattle.graph.specs.Model.{model}
 use Rattle.subgraph.specs.declared.places.Subgraphs.{Subgraphs}
 use Rattle.subgraph.specs.Subgraphs.{in_order, in_parts}
 use Rattle.subgraph.proofs.Alone.{added_kept, added_taken, added_room}
 use Rattle.subgraph.proofs.places.Subgraphs.add_singletons.Goals as goal
-use Rattle.subgraph.proofs.places.Subgraphs.add_singletons.Goals.{then-is_singleton, else-is_singleton}
+use Rattle.subgraph.proofs.places.Subgraphs.add_singletons.Goals.{After-is_singleton, then-is_singleton, else-is_singleton}
+
+room : (c : After-is_singleton) → c.is_singleton.result ≡ true → length (in_order c.loop-node.self) < 1024
+room c is =
+    let m = model c.args.graph.now in
+    let count = ap length c.nodes.ensures in
+    added_room m.edges c.loop-node.node c.loop-node.self c.loop-node.invariant (length m.nodes) (omega arith) (sym c.is_singleton.ensures ∙ is) c.requires
 
 pub push-requires : goal.push-requires
-push-requires c =
-    let m = model c.args.graph.now in
-    let count = ap length c.nodes-node-end.ensures in
-    let low : c.loop-node.node < length m.nodes = omega arith in
-    let room = added_room m.edges c.loop-node.node c.loop-node.self c.loop-node.invariant (length m.nodes) low (sym c.if-is_singleton.ensures) c.requires in
-    (omega arith, room)
+push-requires c = (omega arith, room (goal.at.push-requires c).After-is_singleton c.if-is_singleton.true)
+
+pub invariant_of-self-then-is_singleton : goal.invariant_of-self-then-is_singleton
+invariant_of-self-then-is_singleton c =
+    let fits = room (goal.at.invariant_of-self-then-is_singleton c).After-is_singleton c.if-is_singleton.true in
+    let more = c.push.ensures.len in
+    let first = c.loop-node.self.parts_first in
+    let few = c.loop-node.self.count_fits in
+    record { order_fits = omega arith; count_fits = omega arith; parts_first = omega arith }
 
 pub loop-node-preserved : goal.loop-node-preserved
 loop-node-preserved c =

@@ -1,7 +1,7 @@
 use Rattle.std.proofs.Common.{◌≤◌, length, sym, subst}
 use Rattle.tables.specs.Steps.{Below}
 use Rattle.graph.specs.Model.{model}
-use Rattle.graph.proofs.Sound.{sound, neighbours_below}
+use Rattle.graph.proofs.Sound.{sound}
 use Rattle.walk_neighbors.specs.GivenOut.{GivesFrom}
 use Rattle.walk_neighbors.proofs.Each.{enabled_below}
 use Rattle.walk_neighbors.proofs.Stepping.{Fits, fits_new, new_gives}
@@ -16,7 +16,7 @@ invariant_of-result c =
     let good = sound c.args.graph.now in
     let fit = subst (Fits N) (sym c.new.ensures) (fits_new N good.few_nodes).0 in
     record {
-      direct_inside = subst (Below N) (sym c.neighbors_directed.ensures) (neighbours_below N m.edges c.args.direction c.args.node good.ends);
+      direct_inside = c.neighbors_directed.ensures.inside;
       long = fit.long;
       inside = fit.below;
       room = fit.room;
@@ -29,7 +29,7 @@ returns c =
     let d = c.args.direction in
     let n = c.args.node in
     let good = sound c.args.graph.now in
-    let is = new_gives d m n _ _ good.few_nodes c.neighbors_directed.ensures c.new.ensures in
+    let is = new_gives d m n _ _ good.few_nodes c.neighbors_directed.ensures.list c.new.ensures in
     record {
       coming = is;
       law = subst (GivesFrom d m n) (sym is) (lawful m good d n);

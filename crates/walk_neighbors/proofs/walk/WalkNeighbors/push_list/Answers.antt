@@ -12,7 +12,7 @@ pub loop-other-init : goal.loop-other-init
 loop-other-init c =
     let w = c.args.self.now in
     let m = walked w in
-    let all : coming c.into_iter-other-iterator.result ≡ sees w.direction m c.args.node = ap coming c.into_iter-other-iterator.ensures.into_iter_gives ∙ c.neighbors_directed-other-items.ensures in (
+    let all : coming c.into_iter-other-iterator.result ≡ sees w.direction m c.args.node = ap coming c.into_iter-other-iterator.ensures.into_iter_gives ∙ c.neighbors_directed-other-items.ensures.list in (
       ap (λ l. push_all l w.pending) all,
       subst (Below (length m.nodes)) (sym all) (neighbours_below (length m.nodes) m.edges w.direction c.args.node (sound w.graph.now).ends),
       refl,
@@ -37,4 +37,4 @@ returns c =
     let pushed = ap (λ l. push_all l c.loop-other.self.pending) (sym c.in-None.ensures.steps.0) ∙ inv.0 in
     let b = neighbours_below (length m.nodes) m.edges w.direction c.args.node (sound w.graph.now).ends in
     let got = gone_past c.args.node w c.loop-other.self b c.requires pushed inv.2 inv.3 inv.4 in
-    record { onward = got.0; left = got.1; graph = inv.2 }
+    record { onward = got.0; left = got.1 }

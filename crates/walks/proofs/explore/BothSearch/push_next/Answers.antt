@@ -19,6 +19,6 @@ returns c =
     let es = (model c.args.graph.now).edges in
     let n = c.args.node in
     let visited = c.args.visited.now in
-    c.push_unvisited.ensures
+    c.push_unvisited.ensures.pushed
     ∙ ap (piled (sources es n) visited) c.push_next.ensures
     ∙ sym (stacked_append (is_unvisited visited) (targets es n) (sources es n) c.args.stack.now)
