@@ -15,7 +15,7 @@ use records::refusal::Refusal;
 use records::stage::{Call, admit};
 use tables::fill::fill;
 
-// Works out the value of each node, neighbours first.
+// Works out the value of each node, neighbours first. The analysis and its table are the caller's two values, as in the Rust.
 pub fn topo_analysis<A: TopoAnalysis>(
     graph: &RawInstGraph,
     analysis: &A,

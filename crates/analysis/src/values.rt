@@ -8,7 +8,7 @@ use crate::analysis::{Course, TopoAnalysis};
 use graph::raw::RawInstGraph;
 use records::edge::Direction;
 use std::iter;
-use walk_neighbors::walk::WalkNeighbors;
+use walk_neighbors::neighbors::neighbors_directed;
 
 // An analysis of a graph, and a table that has an entry for each node.
 #[derive(Drop)]
@@ -67,7 +67,7 @@ impl<A: TopoAnalysis> Values<'_, A> {
         } else if self.graph.nodes()[at].disabled() {
             self.join_all(at, iter::empty())
         } else {
-            self.join_all(at, WalkNeighbors::new(self.graph, at, direction))
+            self.join_all(at, neighbors_directed(self.graph, at, direction))
         }
     }
 }

@@ -89,10 +89,8 @@ impl RawInstGraph {
     pub fn node(&self, number: usize) -> Result<Node, Refusal>
         ensures { result ≡ node_record number (model self.now) }
     {
-        self.nodes
-            .get(number)
-            .copied()
-            .ok_or(Refusal::UnknownNode(number))
+        self.known(number)?;
+        Ok(self.nodes()[number])
     }
 
     pub fn stage(&self) -> Stage
@@ -127,7 +125,8 @@ impl RawInstGraph {
             .map_or(&[], |sealing| sealing.order.as_slice())
     }
 
-    // Whether from a node one that is not disabled can be reached; no entries before the graph is sealed.
+    // Whether from a node one that is not disabled can be reached; no entries before the graph is sealed. It and `order` are
+    // shorter than a function for both.
     pub fn reach(&self) -> &[bool]
         ensures { result.now ≡ (model self.now).reach }
     {

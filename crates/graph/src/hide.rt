@@ -68,13 +68,13 @@ impl RawInstGraph {
     fn all_known(&self, numbers: &[usize]) -> Result<(), Refusal>
         ensures { result ≡ all_known numbers.now (model self.now) }
     {
-        match first_past(numbers, self.nodes.len()) {
-            Some(position) => Err(Refusal::UnknownNode(position)),
-            None => Ok(()),
-        }
+        first_past(numbers, self.nodes.len()).map_or(
+            Ok(()),
+            |position| Err(Refusal::UnknownNode(position)),
+        )
     }
 
-    // Shows or hides nodes in turn, and tells whether that changed any.
+    // Shows or hides nodes in turn, and tells whether that changed any. A `for` asks of an iterator that it can go on and ends.
     fn show_each<I: Iterator<Item = usize>>(&mut self, to: Visibility, numbers: I) -> bool
         requires can { I.can_next numbers }
         requires ends { IsFinite (I.remaining numbers) }
@@ -122,7 +122,8 @@ impl RawInstGraph {
         Ok(self.show_each(Visibility::Hidden, rest.iter().copied()))
     }
 
-    // What is left of a list after its first n entries that are shown. A chain needs a closure that counts down.
+    // What is left of a list after its first n entries that are shown. A chain that finds the nth of them would treat none and
+    // too few apart.
     fn after_shown<'a>(&self, numbers: &'a [usize], n: usize) -> &'a [usize]
         ensures { result.now ≡ after_shown n numbers.now (model self.now) }
     {

@@ -9,7 +9,8 @@ ghost use Rattle.graph.specs.Model.{model};
 use crate::raw::RawInstGraph;
 use records::edge::Direction;
 
-// A place in one of a node's two edge lists: the edge that comes next, if there is one.
+// A place in one of a node's two edge lists: the edge that comes next, if there is one. What it gives lies inside the graph
+// (`Inside`, `Below`), which only the graph's own type knows, so the contracts say it.
 // It holds no graph, so the graph may change between two steps.
 #[derive(Clone, Copy)]
 pub struct Walker {

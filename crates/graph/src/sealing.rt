@@ -53,7 +53,7 @@ impl RawInstGraph {
     }
 }
 
-// Gives each node its place.
+// Gives each node its place. After a `zip` with the places nothing would be known of the nodes that were written.
 fn put_places(nodes: &mut [Node], places: &[Option<Place>])
     requires { length nodes.old ≤ length places.now }
     ensures { nodes.new ≡ with_places places.now nodes.old }

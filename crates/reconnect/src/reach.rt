@@ -23,6 +23,7 @@ pub trait ReachKind {
         ensures { result ≡ wanted node.now };
 }
 
+// The two kinds are types, as in the Rust.
 pub struct ReachVisible;
 
 impl ReachKind for ReachVisible {

@@ -45,6 +45,7 @@ impl TopoAnalysis for ReconnectAnalysis<'_> {
         parent: &Node,
         value: Strands,
     ) -> Strands {
+        // The four cases of an edge, as the rule has them.
         match (parent.visible(), node.visible()) {
             (false, false) => so_far.extend(value, from, node.hidden()),
             (true, false) => so_far.start(value, from == self.source, node.hidden()),

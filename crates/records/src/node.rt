@@ -27,6 +27,7 @@ impl fmt::Display for UnknownNumber {
 
 impl Error for UnknownNumber {}
 
+// A table for states and one for kinds: each names its own cases.
 impl TryFrom<u8> for NodeState {
     type Error = UnknownNumber;
 

@@ -1,5 +1,5 @@
 // Reading the counts and rows of a sheet one after another.
-ghost use Rattle.std.specs.Prelude.{◌≡◌, ◌≤◌, length, drop, OnOk};
+ghost use Rattle.std.specs.Prelude.{◌≡◌, ◌≤◌, length, OnOk};
 ghost use Rattle.sheet.specs.Rows.{chunk, count_at, node_row, edge_row};
 
 use records::edge::Edge;
@@ -23,11 +23,11 @@ pub(crate) struct Reader<'a> {
 }
 
 impl Reader<'_> {
-    ghost use Rattle.sheet.specs.Readers.{Advances};
+    ghost use Rattle.sheet.specs.Readers.{Advances, rest};
 
     // The next bytes, as many as the array has.
     fn take<const N: usize>(&mut self) -> Result<[u8; N], SheetRefusal>
-        ensures value { result ≡ chunk N self.old.at (drop self.old.at self.old.bytes.now) }
+        ensures value { result ≡ chunk N self.old.at (rest self.old) }
         ensures after { OnOk result (Advances N self.old self.new) }
     {
         let next = self.bytes[self.at..]
@@ -38,14 +38,14 @@ impl Reader<'_> {
     }
 
     pub(crate) fn count(&mut self) -> Result<u16, SheetRefusal>
-        ensures value { result ≡ count_at self.old.at (drop self.old.at self.old.bytes.now) }
+        ensures value { result ≡ count_at self.old.at (rest self.old) }
         ensures after { OnOk result (Advances 2 self.old self.new) }
     {
         Ok(u16::from_be_bytes(self.take()?))
     }
 
     pub(crate) fn node_row(&mut self) -> Result<SheetNode, SheetRefusal>
-        ensures value { result ≡ node_row self.old.at (drop self.old.at self.old.bytes.now) }
+        ensures value { result ≡ node_row self.old.at (rest self.old) }
         ensures after { OnOk result (Advances 6 self.old self.new) }
     {
         let at = self.at;
@@ -58,7 +58,7 @@ impl Reader<'_> {
     }
 
     pub(crate) fn edge_row(&mut self) -> Result<Edge, SheetRefusal>
-        ensures value { result ≡ edge_row self.old.at (drop self.old.at self.old.bytes.now) }
+        ensures value { result ≡ edge_row self.old.at (rest self.old) }
         ensures after { OnOk result (Advances 4 self.old self.new) }
     {
         let [a, b, c, d] = self.take::<4>()?;

@@ -1,5 +1,4 @@
 pub mod Each
-pub mod Finding
 pub mod Stepping
 pub mod Meeting
 pub mod Pushing

@@ -7,7 +7,8 @@ use Rattle.tables.specs.Steps.{Below}
 use Rattle.records.specs.Walks.{Among}
 use Rattle.walk_neighbors.specs.PastDisabled.{Noted, noted, push, push_all}
 use Rattle.walk_neighbors.specs.GivenOut.{times}
-use Rattle.walk_neighbors.proofs.Stepping.{Fits, push_one, push_yes, push_no}
+use Rattle.walk_neighbors.specs.Cursors.{Fits}
+use Rattle.walk_neighbors.proofs.Stepping.{push_one, push_yes, push_no}
 
 abbrev pub mark : Bool → ℕ
 mark b = cond b 1 0

@@ -6,7 +6,8 @@ use Rattle.tables.specs.Steps.{Below}
 use Rattle.records.specs.Walks.{Among}
 use Rattle.walk_neighbors.specs.PastDisabled.{Noted, noted, push_all, drained, gone_through, pops}
 use Rattle.walk_neighbors.specs.GivenOut.{times, Past, near_by, onward, Gives}
-use Rattle.walk_neighbors.proofs.Stepping.{Fits, push_list, fits_new, none_left}
+use Rattle.walk_neighbors.specs.Cursors.{Fits}
+use Rattle.walk_neighbors.proofs.Stepping.{push_list, fits_new, none_left}
 use Rattle.walk_neighbors.proofs.Pushing.{mark, marked, times_none, times_same, times_other, Pushed, pushed}
 
 unmarked : (y : ℕ) → get_or (replicate 1024 false) y false ≡ false

@@ -7,12 +7,7 @@ use Rattle.tables.proofs.Marking.{blanks_set, blanks_new}
 use Rattle.records.specs.declared.edge.Direction.{Direction}
 use Rattle.graph.specs.Model.{Model}
 use Rattle.walk_neighbors.specs.PastDisabled.{Noted, noted, push, push_all, drained, gone_through, pops, sees, is_off, may_reach, enabled_neighbours}
-
--- what is noted goes with so many nodes
-pub record Fits (nodes : ℕ) (p : Noted) : Type 0 where
-  pub long : nodes ≤ length p.visited
-  pub below : Below nodes p.stack
-  pub room : pops nodes p ≤ 1024
+use Rattle.walk_neighbors.specs.Cursors.{Fits}
 
 pub push_yes : (m : ℕ) (p : Noted) → get_or p.visited m false ≡ true → push m p ≡ p
 push_yes m p t = cond-true _ p (noted (set p.visited m true) (m ∷ p.stack)) t

@@ -1,3 +1,4 @@
 pub mod PastDisabled
 pub mod GivenOut
 pub mod Cursors
+pub mod Bound

@@ -5,7 +5,7 @@ ghost use Rattle.graph.specs.Model.{model};
 ghost use Rattle.graph.specs.Adding.{node_at};
 ghost use Rattle.walk_neighbors.specs.PastDisabled.{enabled_neighbours};
 
-use crate::walk::WalkNeighbors;
+use crate::neighbors::neighbors_directed;
 use graph::raw::RawInstGraph;
 use records::edge::Direction;
 
@@ -14,7 +14,7 @@ pub fn count_hidden(graph: &RawInstGraph, node: usize, direction: Direction) -> 
     ensures { result ≡ count_by (λ k. is_hidden (node_at (model graph.now) k)) (enabled_neighbours direction (model graph.now) node) }
 {
     let nodes = graph.nodes();
-    WalkNeighbors::new(graph, node, direction)
+    neighbors_directed(graph, node, direction)
         .filter(|other| nodes[*other as usize].hidden())
         .count()
 }

@@ -2,5 +2,6 @@
 #![tactic(auto)]
 
 pub mod hidden;
+pub mod neighbors;
 mod pending;
 pub mod walk;

@@ -1,28 +1,32 @@
 // Going through a node's neighbors, with each disabled one replaced by what lies past it.
-ghost use Rattle.std.specs.Prelude.{◌≡◌, ◌≤◌, length, filter};
-ghost use Rattle.std.specs.List.{AllByRecursion-prop};
-ghost use Rattle.std.specs.Coded.{le_prop};
+ghost use Rattle.std.specs.Prelude.{◌≡◌, ◌≤◌, true, length, filter};
 ghost use Rattle.tables.specs.Steps.{Steps, Inside, Below};
 ghost use Rattle.graph.specs.Model.{model};
-ghost use Rattle.graph.specs.Cursors.{coming};
-ghost use Rattle.walk_neighbors.specs.PastDisabled.{pops, may_reach};
+ghost use Rattle.graph.specs.Cursors.{coming_in};
+ghost use Rattle.walk_neighbors.specs.PastDisabled.{is_off, may_reach, enabled_neighbours};
+ghost use Rattle.walk_neighbors.specs.GivenOut.{GivesFrom};
+ghost use Rattle.walk_neighbors.specs.Cursors.{Fit, fit_prop, to_come, after, left, Met};
 
 use crate::pending::Pending;
-use graph::neighbors::Neighbors;
+use graph::neighbors::Walker;
 use graph::raw::RawInstGraph;
 use records::edge::Direction;
 
 // Goes through a node's direct list, and then through the lists of the disabled nodes that it met.
+// It holds no graph, so nodes may be shown and hidden between two steps.
 #[derive(Drop)]
-pub struct WalkNeighbors<'a> {
-    pub(crate) graph: &'a RawInstGraph,
+pub struct WalkNeighbors {
     pub(crate) direction: Direction,
-    pub(crate) direct: Neighbors<'a>,
+    pub(crate) direct: Walker,
     pub(crate) pending: Pending,
-    ghost direct_inside: { Below (length (model graph.now).nodes) (coming direct) } by { AllByRecursion-prop _ (λ _. le_prop) (coming direct) },
-    ghost long: { length (model graph.now).nodes ≤ length pending.visited },
-    ghost inside: { Below (length (model graph.now).nodes) pending.stack } by { AllByRecursion-prop _ (λ _. le_prop) pending.stack },
-    ghost room: { pops (length (model graph.now).nodes) pending ≤ 1024 },
+}
+
+// A walk and the graph that it goes through.
+#[derive(Drop)]
+pub struct Neighbors<'a> {
+    pub(crate) graph: &'a RawInstGraph,
+    pub(crate) walk: WalkNeighbors,
+    ghost fit: { Fit (model graph.now) walk } by { fit_prop (model graph.now) walk },
 }
 
 // Whether from a node one that is not disabled may be reached: yes where the graph does not tell.
@@ -33,78 +37,103 @@ fn may_reach(graph: &RawInstGraph, node: u16) -> bool
 }
 
 // The next direct neighbor from which a node that is not disabled may be reached.
-fn next_direct(graph: &RawInstGraph, direct: &mut Neighbors<'_>) -> Option<u16>
-    requires { Below (length (model graph.now).nodes) (coming direct.old) }
-    ensures steps { Steps (filter (may_reach (model graph.now)) (coming direct.old)) result (filter (may_reach (model graph.now)) (coming direct.new)) }
+fn next_direct(graph: &RawInstGraph, direct: &mut Walker) -> Option<u16>
+    ensures steps { Steps (filter (may_reach (model graph.now)) (coming_in (model graph.now).edges direct.old)) result (filter (may_reach (model graph.now)) (coming_in (model graph.now).edges direct.new)) }
     ensures inside { Inside (length (model graph.now).nodes) result }
-    ensures left { Below (length (model graph.now).nodes) (coming direct.new) }
 {
-    direct.find(|other| may_reach(graph, *other))
+    while let Some(other) = direct.next(graph) {
+        if may_reach(graph, other) {
+            return Some(other);
+        }
+    }
+    None
 }
 
-impl<'a> WalkNeighbors<'a> {
-    ghost use Rattle.walk_neighbors.specs.PastDisabled.{is_off, enabled_neighbours};
-    ghost use Rattle.walk_neighbors.specs.GivenOut.{GivesFrom};
-    ghost use Rattle.walk_neighbors.specs.Cursors.{to_come, after, left, Met};
-    ghost use Rattle.std.specs.Prelude.{true};
-
+impl WalkNeighbors {
     // The neighbors of a node past disabled nodes, at most one for each of 4,096 edges and 1,024 nodes; a number that names no node has none.
-    pub fn new(graph: &'a RawInstGraph, node: usize, direction: Direction) -> Self
-        ensures coming { to_come result ≡ enabled_neighbours direction (model graph.now) node }
-        ensures law { GivesFrom direction (model graph.now) node (to_come result) }
-        ensures few { length (to_come result) ≤ 5120 }
-        ensures inside { Below (length (model graph.now).nodes) (to_come result) }
+    pub fn new(graph: &RawInstGraph, node: usize, direction: Direction) -> Self
+        ensures coming { to_come (model graph.now) result ≡ enabled_neighbours direction (model graph.now) node }
+        ensures law { GivesFrom direction (model graph.now) node (to_come (model graph.now) result) }
+        ensures few { length (to_come (model graph.now) result) ≤ 5120 }
+        ensures inside { Below (length (model graph.now).nodes) (to_come (model graph.now) result) }
+        ensures fit { Fit (model graph.now) result }
     {
         WalkNeighbors {
-            graph,
             direction,
-            direct: graph.neighbors_directed(node, direction),
+            direct: graph.neighbors_directed(node, direction).detach(),
             pending: Pending::new(),
         }
     }
 
     // The next node, from the direct list or else from those noted.
-    fn next_met(&mut self) -> Option<u16>
-        ensures met { Met self.old result self.new }
-        ensures inside { Inside (length (model self.new.graph.now).nodes) result }
+    fn next_met(&mut self, graph: &RawInstGraph) -> Option<u16>
+        requires { Fit (model graph.now) self.old }
+        ensures met { Met (model graph.now) self.old result self.new }
+        ensures inside { Inside (length (model graph.now).nodes) result }
+        ensures fit { Fit (model graph.now) self.new }
     {
         // The library's `or_else` does not say that what its closure borrows stays as it is where it is not called.
-        match next_direct(self.graph, &mut self.direct) {
+        match next_direct(graph, &mut self.direct) {
             Some(node) => Some(node),
             None => self.pending.pop(),
         }
     }
 
     // Goes past a disabled node: notes its neighbors.
-    fn push_list(&mut self, node: u16)
-        requires { is_off (model self.old.graph.now) node ≡ true }
-        ensures onward { to_come self.new ≡ after node self.old }
-        ensures left { left self.new ≡ left self.old }
+    fn push_list(&mut self, graph: &RawInstGraph, node: u16)
+        requires off { is_off (model graph.now) node ≡ true }
+        requires fit { Fit (model graph.now) self.old }
+        ensures onward { to_come (model graph.now) self.new ≡ after (model graph.now) node self.old }
+        ensures left { left (model graph.now) self.new ≡ left (model graph.now) self.old }
+        ensures fit { Fit (model graph.now) self.new }
     {
-        for other in self.graph.neighbors_directed(node as usize, self.direction) {
+        for other in graph.neighbors_directed(node as usize, self.direction) {
             self.pending.push(other);
         }
     }
+
+    // The next node that is not disabled, none past the end.
+    pub fn next(&mut self, graph: &RawInstGraph) -> Option<u16>
+        requires { Fit (model graph.now) self.old }
+        ensures steps { Steps (to_come (model graph.now) self.old) result (to_come (model graph.now) self.new) }
+        ensures inside { Inside (length (model graph.now).nodes) result }
+        ensures fit { Fit (model graph.now) self.new }
+    {
+        while let Some(node) = self.next_met(graph) {
+            if !graph.nodes()[node as usize].disabled() {
+                return Some(node);
+            }
+            self.push_list(graph, node);
+        }
+        None
+    }
 }
 
-impl Iterator for WalkNeighbors<'_> {
+impl Neighbors<'_> {
+    ghost use Rattle.walk_neighbors.specs.Bound.{walked, still_to_come};
+
+    // The walk alone, which may go on in the same graph or in a changed one.
+    pub fn detach(self) -> WalkNeighbors
+        ensures coming { to_come (walked self.entry) result ≡ still_to_come self.entry }
+        ensures fit { Fit (walked self.entry) result }
+    {
+        self.walk
+    }
+}
+
+impl Iterator for Neighbors<'_> {
     ghost use Rattle.std.specs.Iterator.{YieldsFirst, item_count};
-    ghost use Rattle.walk_neighbors.specs.Cursors.{to_come};
+    ghost use Rattle.walk_neighbors.specs.Bound.{still_to_come};
 
     type Item = u16;
 
-    ghost next_gives = { YieldsFirst to_come };
+    ghost next_gives = { YieldsFirst still_to_come };
 
-    ghost remaining = { item_count to_come };
+    ghost remaining = { item_count still_to_come };
 
     // The next node that is not disabled, none past the end.
     fn next(&mut self) -> Option<u16> {
-        while let Some(node) = self.next_met() {
-            if !self.graph.nodes()[node as usize].disabled() {
-                return Some(node);
-            }
-            self.push_list(node);
-        }
-        None
+        let Neighbors { graph, walk } = self;
+        walk.next(graph)
     }
 }

@@ -19,10 +19,10 @@ fn once_for_the_edge_and_once_past_the_disabled_node(rt: HostRuntime) {
     assert_eq!(rt; graph.add_edge(1, 3), Ok(3));
     assert_eq!(rt; graph.disable(1), Ok(true));
     let mut walk = WalkNeighbors::new(&graph, 0, Direction::Outgoing);
-    assert_eq!(rt; walk.next(), Some(3u16));
-    assert_eq!(rt; walk.next(), Some(2u16));
-    assert_eq!(rt; walk.next(), Some(3u16));
-    assert_eq!(rt; walk.next(), None);
+    assert_eq!(rt; walk.next(&graph), Some(3u16));
+    assert_eq!(rt; walk.next(&graph), Some(2u16));
+    assert_eq!(rt; walk.next(&graph), Some(3u16));
+    assert_eq!(rt; walk.next(&graph), None);
     assert_eq!(rt; count_hidden(&graph, 0, Direction::Outgoing), 3);
     assert_eq!(rt; count_hidden(&graph, 2, Direction::Incoming), 1);
     assert_eq!(rt; count_hidden(&graph, 1, Direction::Outgoing), 2);

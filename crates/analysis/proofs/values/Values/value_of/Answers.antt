@@ -2,7 +2,7 @@ use Rattle.std.proofs.Common.{◌≡◌, true, false, ap, ◌∙◌, rules}
 use Rattle.std.proofs.lemmas.Iterator.Consumers.{YieldsList-from_first}
 use Rattle.graph.specs.Cursors.{coming}
 use Rattle.graph.specs.Model.{model}
-use Rattle.walk_neighbors.specs.Cursors.{to_come}
+use Rattle.walk_neighbors.specs.Bound.{still_to_come}
 use Rattle.walk_neighbors.specs.PastDisabled.{is_off}
 use Rattle.analysis.specs.Near.{looking_along, near_of}
 use Rattle.analysis.proofs.Joining.{near_direct, near_past}
@@ -25,4 +25,4 @@ join_all-requires-else-disabled-clause-gives g c =
     let way = c.looking_along-direction.ensures ∙ ap looking_along c.FORWARD.ensures in
     let past : skp ≡ true = search rules in
     let on : is_off m c.args.at ≡ false = search rules in
-    (YieldsList-from_first (λ k. k) to_come (near_of fwd skp m c.args.at) (near_past fwd skp m c.args.at _ _ way past on c.new.ensures.coming)).runs
+    (YieldsList-from_first (λ k. k) still_to_come (near_of fwd skp m c.args.at) (near_past fwd skp m c.args.at _ _ way past on c.neighbors_directed-else-disabled.ensures.coming)).runs
