@@ -2,8 +2,7 @@
 ghost use Rattle.std.specs.Prelude.{◌≡◌, Some};
 ghost use Rattle.graph.specs.Model.{model};
 ghost use Rattle.sheet_report.specs.Summaries.{summary_of, of_kind};
-ghost use Rattle.std.specs.Fmt.{WritesOnOk};
-ghost use Rattle.sheet_report.specs.Texts.{line, lines, states, kinds, summary_text};
+ghost use Rattle.sheet_report.specs.Texts.{line, summary_text};
 
 use graph::raw::RawInstGraph;
 use graph::stats::GraphStats;
@@ -65,30 +64,20 @@ impl fmt::Display for Fact<'_> {
     }
 }
 
-impl Summary {
-    // Writes a line for each fact on the nodes' states.
-    fn write_states<W: fmt::Write>(&self, f: &mut fmt::Formatter<W>) -> fmt::Result
-        ensures { WritesOnOk W.write_str_gives f.old result (lines (states self.now)) f.new }
-    {
+// A line for each fact.
+impl fmt::Display for Summary {
+    ghost output = { λ summary. Some (summary_text summary) };
+
+    fn fmt<W: fmt::Write>(&self, f: &mut fmt::Formatter<W>) -> fmt::Result {
         write!(
             f,
-            "{}{}{}{}{}{}",
+            "{}{}{}{}{}{}{}{}{}{}{}{}",
             Fact("nodes", self.nodes),
             Fact("edges", self.edges),
             Fact("shown", self.shown),
             Fact("hidden", self.stats.hidden as usize),
             Fact("disabled", self.stats.disabled as usize),
             Fact("generation", self.stats.generation as usize),
-        )
-    }
-
-    // Writes a line for each kind of node.
-    fn write_kinds<W: fmt::Write>(&self, f: &mut fmt::Formatter<W>) -> fmt::Result
-        ensures { WritesOnOk W.write_str_gives f.old result (lines (kinds self.now)) f.new }
-    {
-        write!(
-            f,
-            "{}{}{}{}{}{}",
             Fact("Instantiation", self.instantiations),
             Fact("ENode", self.enodes),
             Fact("GivenEquality", self.given_equalities),
@@ -96,15 +85,5 @@ impl Summary {
             Fact("Proof", self.proofs),
             Fact("Cdcl", self.cdcls),
         )
-    }
-}
-
-// In two halves: one write of all twelve facts is more than the prover takes at once.
-impl fmt::Display for Summary {
-    ghost output = { λ summary. Some (summary_text summary) };
-
-    fn fmt<W: fmt::Write>(&self, f: &mut fmt::Formatter<W>) -> fmt::Result {
-        self.write_states(f)?;
-        self.write_kinds(f)
     }
 }
