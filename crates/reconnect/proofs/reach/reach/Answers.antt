@@ -1,5 +1,6 @@
-use Rattle.std.proofs.Common.{length, take, sym, refl, ◌∙◌, arith}
-use Rattle.std.proofs.lemmas.List.{length-take-le}
+use Rattle.std.proofs.Common.{length, take, sym, ◌∙◌}
+use Rattle.routes.specs.Graph.{children}
+use Rattle.routes.specs.Reach.{reach_meaning}
 use Rattle.routes.proofs.Reached.{table_tells}
 use Rattle.graph.specs.Model.{model}
 use Rattle.reconnect.specs.Graphs.{graph_in}
@@ -15,8 +16,6 @@ returns g c =
       answer = c.topo_analysis.ensures.answer;
       values = c.topo_analysis.ensures.values;
       tells = λ ok.
-          let says = run_says gr (length c.args.table.now) (sym c.topo_analysis.ensures.answer ∙ ok) in
-          let whole = length-take-le n table (omega (arith, says.1, c.topo_analysis.auto.table)) in
-          let obeys = (c.topo_analysis.ensures.only ok (take n table) whole).1 refl in
-          table_tells g.Kind.ReachKind.wanted (graph_in (model gr)) says.0 (take n table) whole obeys;
+          let says = run_says (reach_meaning g.Kind.ReachKind.wanted) (children (graph_in (model gr))) gr c.args.table.now table c.topo_analysis.auto.table (sym c.topo_analysis.ensures.answer ∙ ok) (c.topo_analysis.ensures.only ok) in
+          table_tells g.Kind.ReachKind.wanted (graph_in (model gr)) says.0 (take n table) says.1 says.2;
     }

@@ -1,5 +1,6 @@
-use Rattle.std.proofs.Common.{length, take, sym, refl, ◌∙◌, arith}
-use Rattle.std.proofs.lemmas.List.{length-take-le}
+use Rattle.std.proofs.Common.{length, take, sym, ◌∙◌}
+use Rattle.routes.specs.Graph.{parents}
+use Rattle.routes.specs.Strands.{strand_meaning}
 use Rattle.routes.proofs.Solved.{along, ranked}
 use Rattle.routes.proofs.Threads.{strands_stand}
 use Rattle.graph.specs.Model.{model}
@@ -17,8 +18,6 @@ returns c =
       answer = c.topo_analysis.ensures.answer;
       values = c.topo_analysis.ensures.values;
       stand = λ ok.
-          let says = run_says gr (length c.args.table.now) (sym c.topo_analysis.ensures.answer ∙ ok) in
-          let whole = length-take-le n table (omega (arith, says.1, c.topo_analysis.auto.table)) in
-          let lawful = (c.topo_analysis.ensures.only ok (take n table) whole).1 refl in
-          strands_stand g (along g says.0) (ranked g says.0) c.args.live.now c.args.source (take n table) lawful;
+          let says = run_says (strand_meaning c.args.source c.args.live.now) (parents g) gr c.args.table.now table c.topo_analysis.auto.table (sym c.topo_analysis.ensures.answer ∙ ok) (c.topo_analysis.ensures.only ok) in
+          strands_stand g (along g says.0) (ranked g says.0) c.args.live.now c.args.source (take n table) says.2;
     }
