@@ -46,7 +46,7 @@ module _ (m : Model) (good : Sound m) (fine : Ordered m) where
           let low = fine.order.complete (get_or m.edges e no_edge).target (good.ends e h).1 in
           ((good.ends e h).1, omega arith)
 
-  sees_lower : (forward : Bool) → Lower count (sees (looking_along forward) m) (rank forward m.order)
+  pub sees_lower : (forward : Bool) → Lower count (sees (looking_along forward) m) (rank forward m.order)
   sees_lower forward n =
       each_neighbour _ (looking_along forward) (history m.edges) n
       (λ x a q. let f = edge_falls forward x a in (f.0, subst (λ k. rank forward m.order (far (looking_along forward) x) < rank forward m.order k) q f.1))

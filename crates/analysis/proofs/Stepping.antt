@@ -36,7 +36,7 @@ length_walk true order = refl
 length_walk false order = length-reverse order
 
 module _ (m : Model) (good : Sound m) (fine : Ordered m) where
-  walk_within : (forward : Bool) (i : ℕ) → i < length m.nodes → walk_at forward m.order i < length m.nodes
+  pub walk_within : (forward : Bool) (i : ℕ) → i < length m.nodes → walk_at forward m.order i < length m.nodes
   walk_within true i h = let l = fine.order.long in fine.order.within i (omega arith)
   walk_within false i h = let l = fine.order.long in subst (λ k. k < length m.nodes) (sym (against m.order i (omega arith))) (fine.order.within (length m.order - 1 - i) (omega arith))
 

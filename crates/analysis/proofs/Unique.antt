@@ -7,11 +7,11 @@ use Rattle.records.specs.Nodes.{no_node}
 use Rattle.walk_neighbors.proofs.Each.{each_map}
 use Rattle.analysis.specs.Rule.{Meaning, ruled, Obeys, Solves, worth, value_table}
 
-folded_same : {X V : Type 0} (f g : V → X → V) (v : V) (xs : List X) → AllByRecursion (λ x. (w : V) → f w x ≡ g w x) xs → fold f v xs ≡ fold g v xs
+pub folded_same : {X V : Type 0} (f g : V → X → V) (v : V) (xs : List X) → AllByRecursion (λ x. (w : V) → f w x ≡ g w x) xs → fold f v xs ≡ fold g v xs
 folded_same f g v [] a = refl
 folded_same f g v (x ∷ xs) a = ap (λ w. fold f w xs) (a.0 v) ∙ folded_same f g (g v x) xs a.1
 
-ruled_same : {V : Type 0} (m : Meaning V) (nodes : List Node) (near : ℕ → List ℕ) (p q : ℕ → V) (n : ℕ) → AllByRecursion (λ k. p k ≡ q k) (near n) → ruled m nodes near p n ≡ ruled m nodes near q n
+pub ruled_same : {V : Type 0} (m : Meaning V) (nodes : List Node) (near : ℕ → List ℕ) (p q : ℕ → V) (n : ℕ) → AllByRecursion (λ k. p k ≡ q k) (near n) → ruled m nodes near p n ≡ ruled m nodes near q n
 ruled_same m nodes near p q n a =
     ap (λ v. m.close v n (get_or nodes n no_node))
     (folded_same _ _ (m.start n (get_or nodes n no_node)) (near n)
@@ -31,7 +31,7 @@ module _ {V : Type 0} (m : Meaning V) (nodes : List Node) (near : ℕ → List �
       (each_map _ _ (near n) (λ j l. settled c d j (omega arith) (omega arith)) (lower n))
 
   -- a table that obeys the rule holds each node's worth
-  obeys_worth : (table : List V) → Obeys m nodes near table → (d n : ℕ) → n < length nodes → rank n < d → get_or table n m.blank ≡ worth m nodes near d n
+  pub obeys_worth : (table : List V) → Obeys m nodes near table → (d n : ℕ) → n < length nodes → rank n < d → get_or table n m.blank ≡ worth m nodes near d n
   obeys_worth table obeys zero n h k = absurd (omega arith)
   obeys_worth table obeys (suc d) n h k =
       obeys n h
@@ -45,7 +45,7 @@ module _ {V : Type 0} (m : Meaning V) (nodes : List Node) (near : ℕ → List �
       ∙ settled (suc (length nodes)) (length nodes) n (omega arith) h
 
   module _ (low : (n : ℕ) → n < length nodes → rank n < length nodes) where
-    obeys_unique : (table : List V) → length table ≡ length nodes → Obeys m nodes near table → table ≡ value_table m nodes near
+    pub obeys_unique : (table : List V) → length table ≡ length nodes → Obeys m nodes near table → table ≡ value_table m nodes near
     obeys_unique table l obeys =
         fill_by_all (worth m nodes near (length nodes)) table (length nodes) m.blank l
         (λ k h. obeys_worth table obeys (length nodes) k h (low k h))
@@ -53,7 +53,7 @@ module _ {V : Type 0} (m : Meaning V) (nodes : List Node) (near : ℕ → List �
     value_at : (k : ℕ) → k < length nodes → get_or (value_table m nodes near) k m.blank ≡ worth m nodes near (length nodes) k
     value_at k h = get_or-map-range_with_len (worth m nodes near (length nodes)) 0 (length nodes) k k m.blank h (omega arith)
 
-    value_obeys : Obeys m nodes near (value_table m nodes near)
+    pub value_obeys : Obeys m nodes near (value_table m nodes near)
     value_obeys n h =
         value_at n h
         ∙ sym (ruled_worth (value_table m nodes near) n (low n h) (each_map _ _ (near n) (λ k l. value_at k l.0) (lower n)))

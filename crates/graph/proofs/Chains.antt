@@ -12,14 +12,14 @@ use Rattle.graph.specs.Links.{newest, upto, Starts, GoesOn, Chained}
 pub history_push : (rows : List Edge) (e : Edge) → history (rows ++ e ∷ []) ≡ e ∷ history rows
 history_push rows e = reverse-append rows (e ∷ [])
 
-starts_push : (d : Direction) (rows : List Edge) (first : List (Option ℕ)) (e : Edge) → near d e < length first → Starts d rows first → Starts d (rows ++ e ∷ []) (set first (near d e) (Some (length rows)))
+pub starts_push : (d : Direction) (rows : List Edge) (first : List (Option ℕ)) (e : Edge) → near d e < length first → Starts d rows first → Starts d (rows ++ e ∷ []) (set first (near d e) (Some (length rows)))
 starts_push d rows first e inside old n lt =
     let turned = history_push rows e in
     let long = length-reverse rows in
     let before = old n lt in
     grind (arith, common_steps)
 
-goes_on_push : (d : Direction) (rows : List Edge) (first next : List (Option ℕ)) (e : Edge) → length rows < length next → near d e < 1024 → Starts d rows first → GoesOn d rows next → GoesOn d (rows ++ e ∷ []) (set next (length rows) (get_or first (near d e) None))
+pub goes_on_push : (d : Direction) (rows : List Edge) (first next : List (Option ℕ)) (e : Edge) → length rows < length next → near d e < 1024 → Starts d rows first → GoesOn d rows next → GoesOn d (rows ++ e ∷ []) (set next (length rows) (get_or first (near d e) None))
 goes_on_push d rows first next e inside small starts old j lt =
     let more = length_push rows e in
     let back : take j (rows ++ e ∷ []) ≡ take j rows = take-append-le j rows (e ∷ []) (omega arith) in

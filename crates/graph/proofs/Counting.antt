@@ -15,7 +15,7 @@ pub tally_push : (s : NodeState) (ns : List Node) (n : Node) → tally s (ns ++ 
 unfolding tally
 tally_push s ns n = sum_by_push (one s) ns n
 
-tally_set : (s : NodeState) (ns : List Node) (i : ℕ) (n d : Node) → i < length ns → tally s (set ns i n) + one s (get_or ns i d) ≡ tally s ns + one s n
+pub tally_set : (s : NodeState) (ns : List Node) (i : ℕ) (n d : Node) → i < length ns → tally s (set ns i n) + one s (get_or ns i d) ≡ tally s ns + one s n
 unfolding tally
 tally_set s ns i n d h = sum_by-set (one s) ns i n d h
 

@@ -10,13 +10,13 @@ use Rattle.records.specs.Walks.{Among, Joins}
 use Rattle.graph.proofs.Standings.{among_reverse, among_reversed, get_or_among, among_get_or}
 
 -- an edge of a list, seen from one of its ends
-record Seen (d : Direction) (es : List Edge) (n k : ℕ) : Type 0 where
+pub record Seen (d : Direction) (es : List Edge) (n k : ℕ) : Type 0 where
   pub edge : Edge
   pub there : Among edge es
   pub near_end : near d edge ≡ n
   pub far_end : far d edge ≡ k
 
-seen_edge : (d : Direction) (es : List Edge) (n k : ℕ) → Among k (neighbours d es n) → Seen d es n k
+pub seen_edge : (d : Direction) (es : List Edge) (n k : ℕ) → Among k (neighbours d es n) → Seen d es n k
 seen_edge d [] n k m = absurd m
 seen_edge d (e ∷ es) n k m = here (λ r. later (seen_edge d es n k r)) (eqb (near d e) n) refl m
   where
@@ -28,7 +28,7 @@ seen_edge d (e ∷ es) n k m = here (λ r. later (seen_edge d es n k r)) (eqb (n
     here rest true q (inr r) = rest r
     here rest false q r = rest r
 
-edge_seen : (d : Direction) (es : List Edge) (n : ℕ) (x : Edge) → Among x es → near d x ≡ n → Among (far d x) (neighbours d es n)
+pub edge_seen : (d : Direction) (es : List Edge) (n : ℕ) (x : Edge) → Among x es → near d x ≡ n → Among (far d x) (neighbours d es n)
 edge_seen d [] n x m e = absurd m
 edge_seen d (y ∷ ys) n x m e = grind (arith, common_steps, edge_seen d ys n x)
 

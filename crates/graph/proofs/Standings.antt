@@ -9,7 +9,7 @@ use Rattle.graph.specs.Order.{stands_at, Within, Complete, Once}
 pub stands_here : (x : ℕ) (xs : List ℕ) (n : ℕ) → x ≡ n → stands_at (x ∷ xs) n ≡ 0
 stands_here x xs n e = cond-true (eqb x n) 0 (suc (stands_at xs n)) (eq-eqb x n e)
 
-stands_later : (x : ℕ) (xs : List ℕ) (n : ℕ) → (x ≡ n → ⊥) → stands_at (x ∷ xs) n ≡ suc (stands_at xs n)
+pub stands_later : (x : ℕ) (xs : List ℕ) (n : ℕ) → (x ≡ n → ⊥) → stands_at (x ∷ xs) n ≡ suc (stands_at xs n)
 stands_later x xs n e = cond-false (eqb x n) 0 (suc (stands_at xs n)) (ne_eqb x n e)
 
 pub stands_inside : (xs : List ℕ) (n : ℕ) → Among n xs → stands_at xs n < length xs

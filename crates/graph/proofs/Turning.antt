@@ -19,10 +19,10 @@ turn v b x = cond (b && not (is_disabled x)) (in_state (asked v) x) x
 turn_twice : (v : Visibility) (a b : Bool) (x : Node) → turn v b (turn v a x) ≡ turn v (a || b) x
 turn_twice v a b x = grind (arith, common_steps)
 
-turned_none : (v : Visibility) (m : Model) → Turned v (named []) false m m
+pub turned_none : (v : Visibility) (m : Model) → Turned v (named []) false m m
 turned_none v m = grind (arith, common_steps)
 
-turned_one : (v : Visibility) (n : ℕ) (m : Model) → Turned v (eqb n) (show v n m).changed m (show v n m).after
+pub turned_one : (v : Visibility) (n : ℕ) (m : Model) → Turned v (eqb n) (show v n m).changed m (show v n m).after
 turned_one v n m = grind (arith, common_steps)
 
 module _ (v : Visibility) (p q : ℕ → Bool) (c d : Bool) (m₀ m₁ m₂ : Model) (one : Turned v p c m₀ m₁) (two : Turned v q d m₁ m₂) where
@@ -38,10 +38,10 @@ module _ (v : Visibility) (p q : ℕ → Bool) (c d : Bool) (m₀ m₁ m₂ : Mo
   undone : m₂.nodes ≡ m₀.nodes → m₁.nodes ≡ m₀.nodes
   undone e = let long = one.many in ext_get_or _ m₁.nodes m₀.nodes one.many (λ k h. undone_at e k (omega arith))
 
-  turned_then : Turned v (λ k. p k || q k) (c || d) m₀ m₂
+  pub turned_then : Turned v (λ k. p k || q k) (c || d) m₀ m₂
   turned_then = record { nodes = both_at; many = two.many ∙ one.many; told = (λ e. grind (arith, common_steps), λ e. let u = undone e in grind (arith, common_steps)); rest = two.rest ∙ ap (λ m. with_generation m₂.generation (with_nodes m₂.nodes m)) one.rest }
 
-turned_all : (v : Visibility) (ns : List ℕ) (m : Model) → Turned v (named ns) (show_in_turn v ns m).changed m (show_in_turn v ns m).after
+pub turned_all : (v : Visibility) (ns : List ℕ) (m : Model) → Turned v (named ns) (show_in_turn v ns m).changed m (show_in_turn v ns m).after
 turned_all v [] m = turned_none v m
 turned_all v (n ∷ ns) m =
     let first = show v n m in

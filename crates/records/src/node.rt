@@ -1,7 +1,7 @@
 // What a node is.
-ghost use Rattle.std.specs.Prelude.{◌≡◌, ok_or};
+ghost use Rattle.std.specs.Prelude.{◌≡◌, Some, ok_or};
 ghost use Rattle.records.specs.Nodes.{asked, is_disabled, is_hidden, is_shown, kind_number, kind_of, state_of};
-ghost use Rattle.records.specs.Unknown.{unknown};
+ghost use Rattle.records.specs.Unknown.{unknown, unknown_line};
 
 use std::error::Error;
 use std::fmt;
@@ -20,6 +20,8 @@ pub enum NodeState {
 pub struct UnknownNumber(pub u8);
 
 impl fmt::Display for UnknownNumber {
+    ghost output = { λ unknown. Some (unknown_line unknown) };
+
     fn fmt<W: fmt::Write>(&self, f: &mut fmt::Formatter<W>) -> fmt::Result {
         write!(f, "nothing has number {}", self.0)
     }

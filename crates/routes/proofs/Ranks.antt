@@ -84,10 +84,10 @@ module _ (g : Graph) where
     walk_distinct a [] b w = (λ m. acyclic a (walk_to a [] b a w m), ((λ m. absurd m), tt))
     walk_distinct a (m ∷ ms) b w = (λ i. acyclic a (walk_to a (m ∷ ms) b a w i), walk_distinct m ms b w.1)
 
-    from_below : (a b : ℕ) → Joins g.edges a b → a < length g.nodes
+    pub from_below : (a b : ℕ) → Joins g.edges a b → a < length g.nodes
     from_below a b d = subst (λ (x : ℕ). x < length g.nodes) d.1.1 (ends d.0 d.1.0).0
 
-    to_below : (a b : ℕ) → Joins g.edges a b → b < length g.nodes
+    pub to_below : (a b : ℕ) → Joins g.edges a b → b < length g.nodes
     to_below a b d = subst (λ (x : ℕ). x < length g.nodes) d.1.2 (ends d.0 d.1.0).1
 
     walk_below : (a : ℕ) (ms : List ℕ) (b : ℕ) → Walk (Joins g.edges) a ms b → Below (length g.nodes) (a ∷ (ms ++ (b ∷ [])))
@@ -95,7 +95,7 @@ module _ (g : Graph) where
     walk_below a (m ∷ ms) b w = (from_below a m w.0, walk_below m ms b w.1)
 
     -- a walk has fewer edges than there are nodes
-    walk_short : (a : ℕ) (ms : List ℕ) (b : ℕ) → Walk (Joins g.edges) a ms b → length ms + 2 ≤ length g.nodes
+    pub walk_short : (a : ℕ) (ms : List ℕ) (b : ℕ) → Walk (Joins g.edges) a ms b → length ms + 2 ≤ length g.nodes
     walk_short a ms b w =
         let f : length (a ∷ (ms ++ (b ∷ []))) ≤ length g.nodes = few (length g.nodes) (a ∷ (ms ++ (b ∷ []))) (walk_distinct a ms b w) (walk_below a ms b w) in
         let s : length (ms ++ (b ∷ [])) ≡ length ms + 1 = length-append ms (b ∷ []) in

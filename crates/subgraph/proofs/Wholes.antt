@@ -21,7 +21,7 @@ turned : (n : ℕ) (before : List ℕ) → reverse (n ∷ before) ≡ reverse be
 turned n before = reverse-append (n ∷ []) before
 
 module _ (R : ℕ → ℕ → Type 0) where
-  ordered_once : (flat : List ℕ) → Ordered R flat → Once (reverse flat)
+  pub ordered_once : (flat : List ℕ) → Ordered R flat → Once (reverse flat)
   ordered_once [] o = λ i h. absurd (omega arith)
   ordered_once (n ∷ before) o =
       subst Once (sym (turned n before))
@@ -37,7 +37,7 @@ module _ (R : ℕ → ℕ → Type 0) where
   ordered_source (n ∷ before) o a b r (inr k) = inr (ordered_source before o.2 a b r k)
 
   -- a step's source stands before its target
-  ordered_before : (flat : List ℕ) → Ordered R flat → (a b : ℕ) → R a b → Among b flat → stands_at (reverse flat) a < stands_at (reverse flat) b
+  pub ordered_before : (flat : List ℕ) → Ordered R flat → (a b : ℕ) → R a b → Among b flat → stands_at (reverse flat) a < stands_at (reverse flat) b
   ordered_before [] o a b r m = absurd m
   ordered_before (n ∷ before) o a b r m =
       let P : List ℕ → Type 0 = λ l. stands_at l a < stands_at l b in
@@ -103,7 +103,7 @@ module _ (p : ℕ → Bool) where
       let some = ap length (passing_taken k e) ∙ length-append (filter p (range_with_len 0 k)) (k ∷ []) in
       omega arith
 
-  passing_once : (a n : ℕ) → Once (filter p (range_with_len a n))
+  pub passing_once : (a n : ℕ) → Once (filter p (range_with_len a n))
   passing_once a zero = λ i h. absurd (omega arith)
   passing_once a (suc n) =
       let rest = filter p (range_with_len (a + 1) n) in
@@ -113,11 +113,11 @@ module _ (p : ℕ → Bool) where
       (cases_Bool (p a))
 
 module _ (es : List Edge) where
-  touched_not_alone : (n : ℕ) → Touched (Joins es) n → alone es n ≡ false
+  pub touched_not_alone : (n : ℕ) → Touched (Joins es) n → alone es n ≡ false
   touched_not_alone n (y, inl j) = let has = some_in y (targets es n) (joins_seen Outgoing es n y j) in grind (arith, common_steps)
   touched_not_alone n (y, inr j) = let has = some_in y (sources es n) (joins_seen Incoming es n y j) in grind (arith, common_steps)
 
-  not_alone_touched : (n : ℕ) → alone es n ≡ false → Touched (Joins es) n
+  pub not_alone_touched : (n : ℕ) → alone es n ≡ false → Touched (Joins es) n
   not_alone_touched n h =
       ⊎_elim
       (λ (t : is_empty (targets es n) ≡ true).
@@ -146,10 +146,10 @@ module _ (es : List Edge) where
         (λ (r : Among k (singletons es n)). let b = (in_range 0 n k (filter_only (alone es) (range_with_len 0 n) k r).0).1 in omega arith)
         (among_either k (reverse flat) (singletons es n) m)
 
-    whole_within : Within n (whole_order es n flat)
+    pub whole_within : Within n (whole_order es n flat)
     whole_within i h = among_below (get_or (whole_order es n flat) i 0) (get_or_among (whole_order es n flat) i 0 h)
 
-    whole_complete : Complete n (whole_order es n flat)
+    pub whole_complete : Complete n (whole_order es n flat)
     whole_complete k h =
         stands_inside (whole_order es n flat) k
         (⊎_elim
@@ -157,10 +157,10 @@ module _ (es : List Edge) where
         (λ (t : alone es k ≡ false). among_left k (reverse flat) (singletons es n) (among_reverse k flat (all k (not_alone_touched k t))))
         (cases_Bool (alone es k)))
 
-    whole_once : Once (whole_order es n flat)
+    pub whole_once : Once (whole_order es n flat)
     whole_once = once_append (reverse flat) (singletons es n) (ordered_once (Joins es) flat ordered) (passing_once (alone es) 0 n) apart
 
-    whole_topological : Topological es (whole_order es n flat)
+    pub whole_topological : Topological es (whole_order es n flat)
     whole_topological e h =
         let a = (get_or es e no_edge).source in
         let b = (get_or es e no_edge).target in

@@ -36,7 +36,7 @@ module _ (g : RawInstGraph) (work : List Bool) (tested : Tested (model g) (lengt
   is_blank : v ≡ filled N false work
   is_blank = left ∙ cond-false _ _ _ (le-ltb (length work) N (tested.passed.0 refl).0)
 
-  found_room : N ≤ length v
+  pub found_room : N ≤ length v
   found_room = let fits = (tested.passed.0 refl).0 in let size = length_filled N false work fits in let same = ap length is_blank in omega arith
 
   unfound : Blank N v

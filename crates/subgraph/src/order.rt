@@ -53,7 +53,10 @@ pub(crate) fn order_from(
 {
     let mut stack = Stack::new();
     stack.push(root);
-    let found = explore::<Both>(graph, stack, visited);
-    let chosen = start_nodes(graph, &found);
-    explore::<Ready>(graph, chosen, appended)
+    let mut found = Stack::new();
+    explore::<Both>(graph, &mut stack, visited, &mut found);
+    let mut chosen = start_nodes(graph, &found);
+    let mut order = Stack::new();
+    explore::<Ready>(graph, &mut chosen, appended, &mut order);
+    order
 }

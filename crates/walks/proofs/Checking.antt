@@ -12,14 +12,14 @@ use Rattle.walks.specs.Cycles.{comes_back, checked, acyclic_answer, Tested}
 use Rattle.walks.proofs.Closed.{back_decides, leads_inside}
 
 -- one node more
-checked_on : (es : List Edge) (N n : ℕ) → checked es N n ≡ Ok tt → comes_back es N n ≡ false → checked es N (suc n) ≡ Ok tt
+pub checked_on : (es : List Edge) (N n : ℕ) → checked es N n ≡ Ok tt → comes_back es N n ≡ false → checked es N (suc n) ≡ Ok tt
 checked_on es N n e f = ap (λ r. unless_refused r (cond (comes_back es N n) (Err (ClosedWalk n)) (Ok tt))) e ∙ cond-false _ _ _ f
 
-checked_stop : (es : List Edge) (N n : ℕ) → checked es N n ≡ Ok tt → comes_back es N n ≡ true → checked es N (suc n) ≡ Err (ClosedWalk n)
+pub checked_stop : (es : List Edge) (N n : ℕ) → checked es N n ≡ Ok tt → comes_back es N n ≡ true → checked es N (suc n) ≡ Err (ClosedWalk n)
 checked_stop es N n e t = ap (λ r. unless_refused r (cond (comes_back es N n) (Err (ClosedWalk n)) (Ok tt))) e ∙ cond-true _ _ _ t
 
 -- a refusal stays
-checked_stays : (es : List Edge) (N n m : ℕ) (e : Refusal) → n ≤ m → checked es N n ≡ Err e → checked es N m ≡ Err e
+pub checked_stays : (es : List Edge) (N n m : ℕ) (e : Refusal) → n ≤ m → checked es N n ≡ Err e → checked es N m ≡ Err e
 checked_stays es N n zero e h is = let same : n ≡ 0 = omega arith in subst (λ k. checked es N k ≡ Err e) same is
 checked_stays es N n (suc m) e h is =
     ⊎_elim

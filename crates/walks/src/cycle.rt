@@ -21,8 +21,9 @@ fn leads_back(graph: &RawInstGraph, node: u16, visited: &mut [bool]) -> bool
     ensures table { visited.new ≡ visited.old }
 {
     let mut stack = Stack::new();
+    let mut order = Stack::new();
     Along::push_next(graph, node, visited, &mut stack);
-    explore::<Along>(graph, stack, visited);
+    explore::<Along>(graph, &mut stack, visited, &mut order);
     let back = visited[node as usize];
     fill(visited, graph.nodes().len(), false);
     back

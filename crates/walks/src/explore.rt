@@ -1,5 +1,5 @@
 // The stack search, and what it goes on with: outgoing edges, or edges both ways.
-ghost use Rattle.std.specs.Prelude.{◌≡◌, ℕ, ◌+◌, ◌≤◌, Bool, List, [], length, ◌⊎◌};
+ghost use Rattle.std.specs.Prelude.{◌≡◌, ℕ, ◌+◌, ◌≤◌, Bool, List, length, ◌⊎◌};
 ghost use Rattle.records.specs.Edges.{history, neighbours};
 ghost use Rattle.records.specs.Walks.{Among, Joins};
 ghost use Rattle.records.specs.declared.edge.Edge.{Edge};
@@ -86,20 +86,24 @@ pub fn push_unvisited(
     }
 }
 
-// Visits what can be reached from the nodes on the stack, and tells them in turn.
-pub fn explore<S: Search>(graph: &RawInstGraph, mut stack: Stack, visited: &mut [bool]) -> Stack
+// Visits what can be reached from the nodes on the stack, and notes them in turn.
+pub fn explore<S: Search>(
+    graph: &RawInstGraph,
+    stack: &mut Stack,
+    visited: &mut [bool],
+    order: &mut Stack,
+)
     requires table { IsTableOf (model graph.now) visited.old }
-    requires below { Below (length (model graph.now).nodes) stack }
-    requires room { length stack + pending (S.next (model graph.now).edges) (length (model graph.now).nodes) visited.old ≤ 8193 }
-    ensures { Left (searched (S.takes (model graph.now).edges) (S.next (model graph.now).edges) (blanks (length (model graph.now).nodes) visited.old) stack visited.old []) visited.new result }
+    requires below { Below (length (model graph.now).nodes) stack.old }
+    requires room { length stack.old + pending (S.next (model graph.now).edges) (length (model graph.now).nodes) visited.old ≤ 8193 }
+    requires notes { length order.old + blanks (length (model graph.now).nodes) visited.old ≤ 8193 }
+    ensures { Left (searched (S.takes (model graph.now).edges) (S.next (model graph.now).edges) (blanks (length (model graph.now).nodes) visited.old) stack.old visited.old order.old) visited.new order.new }
 {
-    let mut order = Stack::new();
     while let Some(node) = stack.pop() {
         if !visited[node as usize] {
             visited[node as usize] = true;
             order.push(node);
-            S::push_next(graph, node, visited, &mut stack);
+            S::push_next(graph, node, visited, stack);
         }
     }
-    order
 }

@@ -86,7 +86,14 @@ fn a_refused_sheet_leaves_an_empty_open_graph(rt: HostRuntime) {
     );
     assert_eq!(rt; graph.nodes().len(), 0);
     assert_eq!(rt; graph.edges().len(), 0);
-    assert_eq!(rt; graph.stats(), GraphStats::default());
+    assert_eq!(rt;
+        graph.stats(),
+        GraphStats {
+            hidden: 0,
+            disabled: 0,
+            generation: 0,
+        }
+    );
     assert_eq!(rt; graph.add_node(NodeKind::ENode, 0), Ok(0));
 }
 

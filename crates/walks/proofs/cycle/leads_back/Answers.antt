@@ -4,6 +4,7 @@ use Rattle.records.specs.declared.edge.Direction.TheVariants.{Outgoing}
 use Rattle.records.specs.Edges.{history}
 use Rattle.tables.specs.Filled.{filled}
 use Rattle.tables.specs.Marks.{blanks}
+use Rattle.tables.proofs.Marking.{blanks_le}
 use Rattle.graph.specs.Model.{model}
 use Rattle.graph.proofs.Sound.{sound, neighbours_below}
 use Rattle.walks.specs.Exploring.{targets, piled, explored, is_unvisited}
@@ -37,11 +38,14 @@ explore-requires c =
     let height = length_piled (targets es n) v [] in
     let p = pending_total (targets es) N v in
     let t = total_edges Outgoing (history es) N in
-    rw pile
+    let blank = blanks_le N v in
+    let nodes = (sound g).few_nodes in
+    rw (pile, c.new-order.ensures)
     (record {
       table = c.requires.table;
       below = below_stacked (is_unvisited v) N (targets es n) [] (λ y a. below_at N (targets es n) y (neighbours_below N es Outgoing n (sound g).ends) a) tt;
       room = omega arith;
+      notes = omega arith;
     })
 
 pub returns : goal.returns
@@ -52,7 +56,9 @@ returns c =
     let n = c.args.node in
     let N = length (model g).nodes in
     let stack : c.push_next.new.stack ≡ piled (targets es n) v [] = c.push_next.ensures ∙ ap (piled (targets es n) v) c.new-stack.ensures in
-    let marks : c.explore.new.visited ≡ (explored (targets es) (blanks N v) (piled (targets es n) v []) v []).visited = c.explore.ensures.marks ∙ ap (λ s. (explored (targets es) (blanks N v) s v []).visited) stack in
+    let marks : c.explore.new.visited ≡ (explored (targets es) (blanks N v) (piled (targets es n) v []) v []).visited =
+    c.explore.ensures.marks ∙ ap (λ s. (explored (targets es) (blanks N v) s v c.new-order.result).visited) stack
+    ∙ ap (λ o. (explored (targets es) (blanks N v) (piled (targets es n) v []) v o).visited) c.new-order.ensures in
     let count : length c.nodes.result.now ≡ N = ap length c.nodes.ensures in
     record {
       answer = ap (λ t. get_or t n false) marks ∙ back_same es N (edges_inside g) n c.requires.node v [] c.requires.table c.requires.blank;
