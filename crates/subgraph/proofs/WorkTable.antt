@@ -39,7 +39,7 @@ module _ (g : RawInstGraph) (work : List Bool) (tested : Tested (model g) (lengt
   pub found_room : N ≤ length v
   found_room = let fits = (tested.passed.0 refl).0 in let size = length_filled N false work fits in let same = ap length is_blank in omega arith
 
-  unfound : Blank N v
+  pub unfound : Blank N v
   unfound = subst (Blank N) (sym is_blank) (λ k h. filled_below N k false false work h)
 
   same : os ≡ orders_of es N

@@ -49,7 +49,7 @@ module _ (P : ℕ → Type 0) (lists : ℕ → List ℕ) (off : ℕ → Bool) (p
       one true x y = x
       one false x y = (s.0, y)
 
-  given_each : (k : ℕ) (ms : List ℕ) (p : Noted) → AllByRecursion P ms → AllByRecursion P p.stack → AllByRecursion P (gone_through lists off k ms p)
+  pub given_each : (k : ℕ) (ms : List ℕ) (p : Noted) → AllByRecursion P ms → AllByRecursion P p.stack → AllByRecursion P (gone_through lists off k ms p)
   given_each k [] p a s = drained_each k p.visited p.stack s
   given_each k (m ∷ ms) p a s = one (off m) (given_each k ms (push_all (lists m) p) a.1 (pushed_each (lists m) p (passes m a.0) s)) (given_each k ms p a.1 s)
     where

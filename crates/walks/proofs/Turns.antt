@@ -12,11 +12,11 @@ pub record Going (test : List Bool → ℕ → Bool) (next : ℕ → List ℕ) (
   pub same : searched test next (blanks N v) st v o ≡ searched test next (blanks N v₀) st₀ v₀ o₀
   pub below : Below N st
   pub room : length st + pending next N v ≤ 8193
-  pub notes : length o + blanks N v ≤ 8193
+  pub notes : length o + blanks N v ≤ length o₀ + blanks N v₀
 
 module _ (test : List Bool → ℕ → Bool) (next : ℕ → List ℕ) (N : ℕ) (v₀ : List Bool) (st₀ o₀ : List ℕ) where
-  pub starts : Below N st₀ → length st₀ + pending next N v₀ ≤ 8193 → length o₀ + blanks N v₀ ≤ 8193 → Going test next N v₀ st₀ o₀ v₀ st₀ o₀
-  starts b r s = record { same = refl; below = b; room = r; notes = s }
+  pub starts : Below N st₀ → length st₀ + pending next N v₀ ≤ 8193 → Going test next N v₀ st₀ o₀ v₀ st₀ o₀
+  starts b r = record { same = refl; below = b; room = r; notes = omega arith }
 
   module _ (v : List Bool) (st rest o : List ℕ) (n : ℕ) (top : st ≡ n ∷ rest) (g : Going test next N v₀ st₀ o₀ v st o) where
     pub top_below : (n < N) × Below N rest
@@ -29,8 +29,8 @@ module _ (test : List Bool → ℕ → Bool) (next : ℕ → List ℕ) (N : ℕ)
       less_pending : pending next N v ≡ length (next n) + pending next N (set v n true)
       less_pending = let low = top_below.0 in pending_set next N n v low (omega arith) new
 
-      pub order_room : length o < 8193
-      order_room = let f = fewer in let notes = g.notes in omega arith
+      pub order_room : length o₀ + blanks N v₀ ≤ 8193 → length o < 8193
+      order_room r = let f = fewer in let notes = g.notes in omega arith
 
       pub push_room : length rest + length (next n) ≤ 8193
       push_room = let p = less_pending in let size = ap length top in let r = g.room in omega arith

@@ -4,10 +4,10 @@ use Rattle.walks.proofs.Turns.{starts, order_room, push_room, falls, new_going, 
 use Rattle.walks.proofs.explore.explore.Goals as goal
 
 pub loop-node-init : goal.loop-node-init
-loop-node-init g c = starts _ _ _ c.args.visited.now c.args.stack.now c.args.order.now c.requires.below c.requires.room c.requires.notes
+loop-node-init g c = starts _ _ _ c.args.visited.now c.args.stack.now c.args.order.now c.requires.below c.requires.room
 
 pub push-requires : goal.push-requires
-push-requires g c = order_room _ _ _ _ _ _ c.loop-node.visited c.loop-node.stack c.pop.new.self c.loop-node.order c.in-Some.node c.in-Some.ensures c.loop-node.invariant c.if-not-visited-node.true (omega arith)
+push-requires g c = order_room _ _ _ _ _ _ c.loop-node.visited c.loop-node.stack c.pop.new.self c.loop-node.order c.in-Some.node c.in-Some.ensures c.loop-node.invariant c.if-not-visited-node.true (omega arith) c.requires.notes
 
 pub push_next-requires-clause-room : goal.push_next-requires-clause-room
 push_next-requires-clause-room g c = push_room _ _ _ _ _ _ c.loop-node.visited c.loop-node.stack c.pop.new.self c.loop-node.order c.in-Some.node c.in-Some.ensures c.loop-node.invariant c.if-not-visited-node.true (omega arith)
