@@ -24,10 +24,12 @@ use records::refusal::Refusal;
 use records::sheet_refusal::SheetRefusal;
 use sheet::reading::read_sheet;
 
+#[tactic(auto, using(graph::proofs::Sound::sound))]
 impl InstGraph {
     // An empty open graph.
     pub fn new() -> Self
-        ensures { result ≡ empty }
+        ensures value { result ≡ empty }
+        ensures sound { Sound result }
     {
         InstGraph {
             raw: RawInstGraph::new(),
@@ -40,27 +42,31 @@ impl InstGraph {
         ensures after { self.new ≡ left (sheet_read bytes.now) }
         ensures exact { OnOk result ((bytes.now ≡ sheet_of self.new) × Given self.new) }
         ensures whole { (m : Model) → Given m → bytes.now ≡ sheet_of m → (result ≡ Ok tt) × (self.new ≡ m) }
+        ensures sound { Sound self.new }
     {
         read_sheet(&mut self.raw, bytes)
     }
 
     // Adds a hidden node, and tells its number.
     pub fn add_node(&mut self, kind: NodeKind, item: u32) -> Result<usize, Refusal>
-        ensures { outcome result self.new ≡ add_node kind item self.old }
+        ensures whole { outcome result self.new ≡ add_node kind item self.old }
+        ensures sound { Sound self.new }
     {
         self.raw.add_node(kind, item)
     }
 
     // Adds an edge between two nodes, and tells its number.
     pub fn add_edge(&mut self, source: usize, target: usize) -> Result<usize, Refusal>
-        ensures { outcome result self.new ≡ add_edge source target self.old }
+        ensures whole { outcome result self.new ≡ add_edge source target self.old }
+        ensures sound { Sound self.new }
     {
         self.raw.add_edge(source, target)
     }
 
     // Disables a node, and tells whether that changed it.
     pub fn disable(&mut self, number: usize) -> Result<bool, Refusal>
-        ensures { outcome result self.new ≡ disable number self.old }
+        ensures whole { outcome result self.new ≡ disable number self.old }
+        ensures sound { Sound self.new }
     {
         self.raw.disable(number)
     }
@@ -71,6 +77,7 @@ impl InstGraph {
         ensures table { work.new ≡ seal_table self.old work.old }
         ensures law { OnOk result (WellSealed self.old self.new) }
         ensures refusals { RefusedWell self.old (length work.old) result }
+        ensures sound { Sound self.new }
     {
         seal(&mut self.raw, work)
     }
@@ -79,6 +86,7 @@ impl InstGraph {
     pub fn set_visibility(&mut self, number: usize, to: Visibility) -> Result<bool, Refusal>
         ensures whole { outcome result self.new ≡ set_visibility number to self.old }
         ensures law { IfOk result (λ changed. Turned to (nat_eq number) changed self.old self.new) }
+        ensures sound { Sound self.new }
     {
         self.raw.set_visibility(number, to)
     }
@@ -91,6 +99,7 @@ impl InstGraph {
     ) -> Result<bool, Refusal>
         ensures whole { outcome result self.new ≡ set_visibility_many to numbers.now self.old }
         ensures law { IfOk result (λ changed. Turned to (named numbers.now) changed self.old self.new) }
+        ensures sound { Sound self.new }
     {
         self.raw.set_visibility_many(to, numbers)
     }
@@ -99,6 +108,7 @@ impl InstGraph {
     pub fn reset_visibility_to(&mut self, to: Visibility) -> Result<bool, Refusal>
         ensures whole { outcome result self.new ≡ reset_visibility_to to self.old }
         ensures law { IfOk result (λ changed. Turned to (λ _. true) changed self.old self.new) }
+        ensures sound { Sound self.new }
     {
         self.raw.reset_visibility_to(to)
     }
@@ -107,6 +117,7 @@ impl InstGraph {
     pub fn keep_first_n(&mut self, numbers: &[usize], n: usize) -> Result<bool, Refusal>
         ensures whole { outcome result self.new ≡ keep_first_n numbers.now n self.old }
         ensures law { IfOk result (λ changed. KeptFirst n numbers.now changed self.old self.new) }
+        ensures sound { Sound self.new }
     {
         self.raw.keep_first_n(numbers, n)
     }
@@ -120,13 +131,15 @@ impl InstGraph {
         ensures answer { result ≡ run_answer (length table.old) self.now }
         ensures values { table.new ≡ run_table (A.meaning analysis.now) A.Course.FORWARD A.Course.SKIP_DISABLED self.now table.old }
         ensures only { result ≡ Ok tt → Solves (A.meaning analysis.now) self.now.nodes (near_of A.Course.FORWARD A.Course.SKIP_DISABLED self.now) (take (length self.now.nodes) table.new) }
+        ensures sound { Sound self.now }
     {
         topo_analysis(&self.raw, analysis, table)
     }
 
     // A node's record.
     pub fn node(&self, number: usize) -> Result<Node, Refusal>
-        ensures { result ≡ node_record number self.now }
+        ensures value { result ≡ node_record number self.now }
+        ensures sound { Sound self.now }
     {
         self.raw.node(number)
     }
