@@ -1,5 +1,6 @@
 // Every call on a graph. What each does is one equation on its answer and the whole graph after it; a call that
-// does not belong to the graph's stage is refused, and a refusal changes nothing.
+// does not belong to the graph's stage is refused, and a refusal changes nothing. What holds of every graph is the
+// clause `sound` of each.
 ghost use Rattle.std.specs.Prelude.{◌≡◌, true, length, take, IfOk, Ok, OnOk, nat_eq};
 ghost use Rattle.graph.specs.Model.{Model, empty, outcome};
 ghost use Rattle.graph.specs.Adding.{add_node, add_edge, node_record, stats_of};

@@ -14,13 +14,16 @@ pub struct Stack {
     items: ArrayVec<u16, ROOM>,
 }
 
-// A clause sees the numbers, the top first.
+// A clause sees the numbers, the top first. That there are no more than there is room for is said where a stack is lent or popped.
 impl Model for Stack {
-    ghost use Rattle.std.specs.Prelude.{ℕ, List, reverse};
+    ghost use Rattle.std.specs.Prelude.{ℕ, ◌≤◌, List, reverse};
+    ghost use Rattle.arrayvec.specs.ArrayVec.{array_vec_len};
 
     ghost Value = { List ℕ };
 
     ghost view = { λ s. reverse s.items.items };
+
+    ghost invariant = { λ s. array_vec_len s.items ≤ 8193 };
 }
 
 impl Stack {
@@ -40,7 +43,8 @@ impl Stack {
     }
 
     pub fn pop(&mut self) -> Option<u16>
-        ensures { Steps self.old result self.new }
+        ensures next { Steps self.old result self.new }
+        ensures few { length self.new ≤ 8193 }
     {
         self.items.pop()
     }
