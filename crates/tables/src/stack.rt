@@ -14,7 +14,7 @@ pub struct Stack {
     items: ArrayVec<u16, ROOM>,
 }
 
-// A clause sees the numbers, the top first. That there are no more than there is room for is said where a stack is lent or popped.
+// A clause sees the numbers, the top first. That there are no more than there is room for is said by `as_slice` and `pop`.
 impl Model for Stack {
     ghost use Rattle.std.specs.Prelude.{ℕ, ◌≤◌, List, reverse};
     ghost use Rattle.arrayvec.specs.ArrayVec.{array_vec_len};
@@ -44,7 +44,7 @@ impl Stack {
 
     pub fn pop(&mut self) -> Option<u16>
         ensures next { Steps self.old result self.new }
-        ensures few { length self.new ≤ 8193 }
+        ensures few { length self.old ≤ 8193 }
     {
         self.items.pop()
     }
